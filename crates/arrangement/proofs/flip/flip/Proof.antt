@@ -1,0 +1,42 @@
+-- `arrangement::flip::flip` meets its contract: the turned copies of the first j slots are written back, and behind them a flip
+-- leaves every slot. Assumes nothing.
+use borrow.Author.Needs.{needs}
+use Rattle.arrangement.proofs.Flips.{module-behind, setting-behind, written-back}
+use Rattle.arrangement.proofs.flip.flip.Statement.{statement}
+use Rattle.arrangement.proofs.flip.flip.Tie as tie
+
+turn-requires : tie.Need-turn-requires
+turn-requires c κs = search needs
+
+write-back-requires : tie.Need-write-back-requires
+write-back-requires c κs = search needs
+
+write-back-requires-2 : tie.Need-write-back-requires-2
+write-back-requires-2 c κs = search needs
+
+same-length : tie.Need-same-length
+same-length c = search needs
+
+same-length-2 : tie.Need-same-length-2
+same-length-2 c = search needs
+
+returns : tie.Need-returns
+returns c =
+    let first = c .before .before .before .before .before .before in
+    let turned = first .before .before .before .before in
+    let start = turned .before .before .before .before .before in
+    let copies = turned .turn .ensures in (
+      written-back _ _ _ _ (copies .0) (first .write-back .ensures) (start .pre .modules) (module-behind _ _),
+      written-back _ _ _ _ (copies .1) (c .before .before .write-back2 .ensures) (start .pre .settings) (setting-behind _ _ _),
+    )
+
+pub flip-spec : {M : Type 1} → statement M
+flip-spec =
+    tie.close
+    (tie.spec
+    turn-requires
+    write-back-requires
+    write-back-requires-2
+    same-length
+    same-length-2
+    returns)

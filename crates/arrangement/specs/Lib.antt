@@ -1,0 +1,3 @@
+pub mod Arrangement
+pub mod Check
+pub mod Flip

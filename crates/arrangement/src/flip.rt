@@ -1,0 +1,86 @@
+// One flip: the first j slots turned round, and their settings raised by one.
+use sizes::MOST_SLOTS;
+use sizes::Verdict;
+ghost use mathlib.Core.Path.{_≡_};
+ghost use Prim.Native.Nat.{_≤_, _<_};
+ghost use lib.ListN.{length, replicate};
+ghost use Rattle.rows.specs.Row.{at, row, front};
+ghost use Rattle.sizes.specs.Sizes.{mostSlots, mostSettings};
+ghost use Rattle.arrangement.specs.Flip.{raised, flippedModules, flippedSettings, flipVerdict, Flippable};
+
+// The check of any n and k, of an arrangement in any two lent buffers and of any length of a flip.
+pub fn judge(n: usize, k: usize, j: usize, modules: &[u8], settings: &[u8]) -> Verdict
+    ensures { λ r. ⌜ r ≡ flipVerdict n k j (now (modules .entry)) (now (settings .entry)) ⌝ }
+{
+    let arrangement = crate::check::judge(n, k, modules, settings);
+    if arrangement.refuses() {
+        return arrangement;
+    }
+    if j < 1 {
+        return Verdict::Refused(9, 0);
+    }
+    if n < j {
+        return Verdict::Refused(9, 0);
+    }
+    Verdict::Fine
+}
+
+// A setting raised by one: a comparison does what a remainder would.
+fn raise(k: usize, setting: u8) -> u8
+    requires { ⌜ (setting < k) × (k ≤ mostSettings) ⌝ }
+    ensures { λ r. ⌜ r ≡ raised k setting ⌝ }
+{
+    let up = setting + 1;
+    if up as usize == k { 0 } else { up }
+}
+
+// A turned copy of the first j slots, and 0 behind them.
+struct Turned {
+    modules: [u8; MOST_SLOTS],
+    settings: [u8; MOST_SLOTS],
+}
+
+fn turn(k: usize, j: usize, modules: &[u8], settings: &[u8]) -> Turned
+    requires { ⌜ Flippable k j (now modules) (now settings) ⌝ }
+    ensures { λ r. ⌜ r .modules ≡ front (flippedModules j (at (now (modules .entry)))) j (replicate mostSlots 0) ⌝ }
+    ensures { λ r. ⌜ r .settings ≡ front (flippedSettings k j (at (now (settings .entry)))) j (replicate mostSlots 0) ⌝ }
+{
+    let mut turned_modules = [0u8; MOST_SLOTS];
+    let mut turned_settings = [0u8; MOST_SLOTS];
+    let mut i = 0;
+    while i < j {
+        let from = j - 1 - i;
+        turned_modules[i] = modules[from];
+        turned_settings[i] = raise(k, settings[from]);
+        i += 1;
+    }
+    Turned {
+        modules: turned_modules,
+        settings: turned_settings,
+    }
+}
+
+// Writes the first j bytes of a copy over those of a row.
+fn write_back(j: usize, copy: [u8; MOST_SLOTS], slots: &mut [u8])
+    requires { ⌜ (j ≤ mostSlots) × (j ≤ length (now slots)) ⌝ }
+    ensures { λ _. ⌜ now (slots .exit) ≡ front (at copy) j (now (slots .entry)) ⌝ }
+{
+    let mut i = 0;
+    while i < j {
+        slots[i] = copy[i];
+        i += 1;
+    }
+}
+
+// The flip itself, of an arrangement that has been checked.
+pub fn flip(k: usize, j: usize, modules: &mut [u8], settings: &mut [u8])
+    requires { ⌜ Flippable k j (now modules) (now settings) ⌝ }
+    ensures { λ _. ⌜ now (modules .exit) ≡ row (flippedModules j (at (now (modules .entry)))) (length (now (modules .entry))) ⌝ }
+    ensures { λ _. ⌜ now (settings .exit) ≡ row (flippedSettings k j (at (now (settings .entry)))) (length (now (settings .entry))) ⌝ }
+{
+    let turned = turn(k, j, modules, settings);
+    let turned_modules = turned.modules;
+    let turned_settings = turned.settings;
+    write_back(j, turned_modules, modules);
+    write_back(j, turned_settings, settings);
+}

@@ -1,0 +1,84 @@
+-- The laws of answers. A promise is made of equations, so two outcomes that keep it are equal; the number and the place of a
+-- verdict are below 256, so the three parts of the one number stand in bits of their own. Assumes nothing.
+use Prim.Native.Nat.{ℕ, _+_, _*_, _^_, _/_, _%_, _<_}
+use mathlib.Core.Path.{_≡_, refl, sym, _∙_, ap}
+use mathlib.Core.Bool.{Bool, true, false}
+use mathlib.Core.List.{List}
+use native.Mathlib.Omega.{arith}
+use lib.Arith.{digits-div, digits-mod}
+use Rattle.sizes.specs.declared.Verdict.{Verdict}
+use Rattle.sizes.specs.declared.Verdict.the-variants.{Fine, Refused}
+use Rattle.sizes.specs.Refusal.{refuses, numberOf, placeOf, unlessRefused}
+use Rattle.sizes.proofs.Refusals.{was-fine, Small}
+use Rattle.limpet.specs.Answer.{Answer, answerOf, packed, unpacked, left, Outcome, outcome, Returns, Leaves}
+
+-- ---- one outcome
+
+pub one-number : {x r s : ℕ} → Returns x r → Returns x s → r ≡ s
+one-number p q = p .returned-is ∙ sym (q .returned-is)
+
+pub one-outcome : {o : Outcome} {r s : ℕ} {a b c d : List ℕ} → Leaves o r a b → Leaves o s c d → (r ≡ s) × (a ≡ c) × (b ≡ d)
+one-outcome p q = (
+  p .returned-is ∙ sym (q .returned-is),
+  p .one-is ∙ sym (q .one-is),
+  p .two-is ∙ sym (q .two-is),
+)
+
+-- ---- the packing
+
+pub packed-fine : (value : ℕ) → 65536 * value ≡ packed (answerOf Fine value)
+unfolding packed answerOf numberOf placeOf unlessRefused
+packed-fine value = omega arith
+
+pub packed-refused : (number place value : ℕ) → number + 256 * place ≡ packed (answerOf (Refused number place) value)
+unfolding packed answerOf numberOf placeOf unlessRefused
+packed-refused number place value = omega arith
+
+-- what was packed is taken apart again, where number and place fit a byte each
+pub unpacked-packed : (a : Answer) → a .number < 256 → a .place < 256 → unpacked (packed a) ≡ a
+unfolding packed unpacked
+unpacked-packed a number-small place-small =
+    let x : ℕ = packed a in
+    let high : x ≡ (a .value * 256 + a .place) * 256 + a .number = omega arith in
+    let whole : x ≡ a .value * 65536 + (256 * a .place + a .number) = omega arith in
+    let number-is : x % 256 ≡ a .number = ap (λ y. y % 256) high ∙ digits-mod (a .value * 256 + a .place) number-small in
+    let rest-is : x / 256 ≡ a .value * 256 + a .place = ap (λ y. y / 256) high ∙ digits-div (a .value * 256 + a .place) number-small in
+    let place-is : x / 256 % 256 ≡ a .place = ap (λ y. y % 256) rest-is ∙ digits-mod (a .value) place-small in
+    let value-is : x / 65536 ≡ a .value = ap (λ y. y / 65536) whole ∙ digits-div (a .value) (omega arith) in
+    λ i. record { number = number-is i; place = place-is i; value = value-is i }
+
+-- and the whole is a number of 64 bits, where the value is one of 48
+pub packed-fits : (a : Answer) → a .number < 256 → a .place < 256 → a .value < 2 ^ 48 → packed a < 2 ^ 64
+unfolding packed
+packed-fits a number-small place-small value-small = omega arith
+
+-- so the host has the answer of every call whose verdict is small
+pub told : (v : Verdict) (value : ℕ) → Small v → unpacked (packed (answerOf v value)) ≡ answerOf v value
+unfolding answerOf
+told v value small = unpacked-packed (answerOf v value) (small .number) (small .place)
+
+-- ---- the calls
+
+-- a call that only judges
+pub judged : {v check : Verdict} {r : ℕ} (value : ℕ) → v ≡ check → r ≡ packed (answerOf v value) → Returns (packed (answerOf check value)) r
+judged value v-is r-is = record { returned-is = r-is ∙ ap (λ w. packed (answerOf w value)) v-is }
+
+-- a call that was refused, as t told: whatever value was packed with the verdict v, none shows
+pub refused-leaves : {v check : Verdict} {t : Bool} {r : ℕ} {a b : List ℕ} (value x : ℕ) (one two one-written two-written : List ℕ) →
+    v ≡ check → t ≡ refuses v → t ≡ true → r ≡ packed (answerOf v x) → a ≡ one → b ≡ two → Leaves (outcome check value one two one-written two-written) r a b
+unfolding refuses outcome left answerOf unlessRefused
+refused-leaves {v = Fine} value x one two one-written two-written v-is t-is t-true r-is a-is b-is =
+    let z : _≡_ {A = Bool} true false = sym t-true ∙ t-is in
+    let n : _≡_ {A = ℕ} 0 1 = cc in absurd (omega arith)
+refused-leaves {v = Refused number place} value x one two one-written two-written v-is t-is t-true r-is a-is b-is =
+    rw (← v-is) (record { returned-is = r-is; one-is = a-is; two-is = b-is })
+
+-- a call that was done
+pub done-leaves : {v check : Verdict} {t : Bool} {r : ℕ} {a b : List ℕ} (value : ℕ) (one two one-written two-written : List ℕ) →
+    v ≡ check → t ≡ refuses v → t ≡ false → r ≡ packed (answerOf v value) → a ≡ one-written → b ≡ two-written →
+    Leaves (outcome check value one two one-written two-written) r a b
+unfolding outcome left
+done-leaves {v} {check} value one two one-written two-written v-is t-is t-false r-is a-is b-is =
+    let fine = was-fine v-is t-is t-false in
+    let returned = r-is ∙ ap (λ w. packed (answerOf w value)) v-is in
+    record { returned-is = returned; one-is = a-is ∙ rw fine; two-is = b-is ∙ rw fine }

@@ -1,0 +1,26 @@
+-- What each call from C returns and leaves, as total functions of what came in. Where a call has no value, its value is 0.
+use Prim.Native.Nat.{ℕ}
+use mathlib.Core.List.{List}
+use Rattle.rows.specs.Row.{at, row}
+use Rattle.sizes.specs.Refusal.{unlessRefused}
+use Rattle.sizes.specs.Sizes.{weight, sizesVerdict}
+use Rattle.arrangement.specs.Check.{lentVerdict}
+use Rattle.arrangement.specs.Flip.{flippedModules, flippedSettings, flipVerdict}
+use Rattle.limpet.specs.Answer.{answerOf, packed, Outcome, outcome}
+
+-- limpet_round: the check of n and k
+unfoldable pub roundReturns : ℕ → ℕ → ℕ
+roundReturns n k = packed (answerOf (sizesVerdict n k) 0)
+
+-- limpet_round_total: T
+unfoldable pub totalReturns : ℕ → ℕ → ℕ
+totalReturns n k = unlessRefused (sizesVerdict n k) (weight n k)
+
+-- limpet_check: the check of an arrangement
+unfoldable pub checkReturns : ℕ → ℕ → List ℕ → List ℕ → ℕ
+checkReturns n k ms ss = packed (answerOf (lentVerdict n k ms ss) 0)
+
+-- limpet_flip: the arrangement flipped
+unfoldable pub flipLeaves : ℕ → ℕ → ℕ → List ℕ → List ℕ → Outcome
+flipLeaves n k j ms ss =
+    outcome (flipVerdict n k j ms ss) 0 ms ss (row (flippedModules j (at ms)) n) (row (flippedSettings k j (at ss)) n)

@@ -1,0 +1,76 @@
+-- The laws of `lowest`. A slot at which a test holds, with none below it, stays the lowest however many slots follow; so a
+-- loop that looks from the front and has found nothing yet knows that `lowest` of the slots passed is 0. Assumes nothing.
+use mathlib.Core.Path.{_≡_, refl, sym, _∙_, ap}
+use mathlib.Core.Bool.{Bool, true, false, cond}
+use Prim.Native.Nat.{ℕ, zero, suc, _+_, _<_, _≤_}
+use native.Mathlib.Nat.{not-suc-le-zero, le-of-suc-le-suc}
+use native.Mathlib.Numerals.{add-one}
+use native.Mathlib.Omega.{arith}
+use Rattle.rows.specs.Search.{orElse, lowest}
+use Rattle.rows.proofs.Cases.{by-last, by-test, by-lt}
+
+or-none : (a b : ℕ) → orElse a b ≡ 0 → (a ≡ 0) × (b ≡ 0)
+unfolding orElse
+or-none zero b e = (refl, e)
+or-none (suc a) b e = absurd (omega arith)
+
+-- ---- a loop that looks from the front
+
+-- before its first turn
+pub none-yet : (test : ℕ → Bool) → lowest test 0 ≡ 0
+unfolding lowest
+none-yet test = refl
+
+-- the test did not hold, and does not hold at the next slot
+pub passed : (test : ℕ → Bool) (i : ℕ) → lowest test i ≡ 0 → test i ≡ false → lowest test (i + 1) ≡ 0
+unfolding lowest orElse
+passed test i none miss = rw (add-one, lowest, none, miss)
+
+-- it did not hold, and holds at the next slot: that stays the lowest
+pub found : (test : ℕ → Bool) (i n : ℕ) → lowest test i ≡ 0 → test i ≡ true → i < n → lowest test n ≡ i + 1
+unfolding lowest orElse
+found test i zero none hit h = absurd (not-suc-le-zero h)
+found test i (suc n) none hit h =
+    by-lt i n (λ l. rw (found test i n none hit l, add-one, orElse))
+    (λ l. let e : n ≡ i = omega arith in rw (e, none, hit, add-one))
+
+-- ---- what the lowest slot says
+
+-- where there is none, the test holds at no slot
+pub none-holds : (test : ℕ → Bool) (n : ℕ) → lowest test n ≡ 0 → (i : ℕ) → i < n → test i ≡ false
+unfolding lowest
+none-holds test zero e i h = absurd (not-suc-le-zero h)
+none-holds test (suc n) e i h =
+    let w = or-none (lowest test n) _ e in
+    by-last (λ x. test x ≡ false) h (λ l. none-holds test n (w .0) i l)
+    (by-test (test n) (λ t. let z : suc n ≡ 0 = sym (rw t) ∙ w .1 in absurd (omega arith)) (λ f. f))
+
+-- where the test holds at no slot, there is none
+pub holds-nowhere : (test : ℕ → Bool) (n : ℕ) → ((i : ℕ) → i < n → test i ≡ false) → lowest test n ≡ 0
+unfolding lowest orElse
+holds-nowhere test zero all = refl
+holds-nowhere test (suc n) all =
+    rw (holds-nowhere test n (λ i h. all i (omega arith)), all n (omega arith))
+
+-- two tests that agree on each slot have the same lowest
+pub lowest-ext : (test other : ℕ → Bool) (n : ℕ) → ((i : ℕ) → i < n → test i ≡ other i) → lowest test n ≡ lowest other n
+unfolding lowest
+lowest-ext test other zero e = refl
+lowest-ext test other (suc n) e = rw (lowest-ext test other n (λ i h. e i (omega arith)), e n (omega arith))
+
+-- it is no further than the last slot
+pub lowest-le : (test : ℕ → Bool) (n : ℕ) → lowest test n ≤ n
+unfolding lowest orElse
+lowest-le test zero = omega arith
+lowest-le test (suc n) =
+    by-lt 0 (lowest test n)
+    (λ l. omega (arith, or-some (lowest test n) (cond (test n) (suc n) 0) l, lowest-le test n))
+    (λ l. let z : lowest test n ≡ 0 = omega arith in rw z (last (test n)))
+  where
+    or-some : (a b : ℕ) → 0 < a → orElse a b ≡ a
+    or-some zero b h = absurd (omega arith)
+    or-some (suc a) b h = refl
+
+    last : (b : Bool) → cond b (suc n) 0 ≤ suc n
+    last true = omega arith
+    last false = omega arith

@@ -1,0 +1,5 @@
+-- `Refusals` has the laws of verdicts, `Grid` turns a test that antt computes at each number below a bound into a law, and
+-- `Weights` has the laws of T and what is known of sizes that are not refused.
+pub mod Grid
+pub mod Refusals
+pub mod Weights

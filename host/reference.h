@@ -1,0 +1,21 @@
+/*
+ * The reference: plain C written from 01-scope.md alone, which shares nothing with the library. Each
+ * function takes and answers what limpet.h says of the call of the same name.
+ */
+#ifndef REFERENCE_H
+#define REFERENCE_H
+
+#include <stddef.h>
+#include <stdint.h>
+
+/* The answer with this number and place, and value 0. */
+uint64_t refused(uint64_t number, uint64_t place);
+
+uint64_t reference_round(size_t n, size_t k);
+uint64_t reference_round_total(size_t n, size_t k);
+uint64_t reference_check(size_t n, size_t k, const uint8_t *modules, size_t modules_length,
+                         const uint8_t *settings, size_t settings_length);
+uint64_t reference_flip(size_t n, size_t k, size_t j, uint8_t *modules, size_t modules_length,
+                        uint8_t *settings, size_t settings_length);
+
+#endif

@@ -1,0 +1,170 @@
+/* The test frame: see test.h. */
+#include "test.h"
+
+#include "limpet.h"
+#include "reference.h"
+
+#include <inttypes.h>
+#include <stdio.h>
+#include <string.h>
+
+enum { GUARD = 32, FAILURES_PRINTED = 10, BYTES_PRINTED = 24 };
+
+static unsigned passed, failed;
+static unsigned long failures; /* of the running test */
+static uint64_t random_state;
+
+static void run_at_every_size(const struct call *call, const struct test *test)
+{
+    for (size_t n = 1; n <= LIMPET_MOST_SLOTS; n++)
+        for (size_t k = 1; k <= LIMPET_MOST_SETTINGS; k++)
+            if (reference_round(n, k) == 0)
+                test->at_every_size(call, n, k);
+}
+
+void run_tests(const struct call *call, const struct test *tests, size_t count)
+{
+    for (const struct test *test = tests; test < tests + count; test++) {
+        failures = 0;
+        random_state = 0;
+        if (test->once != NULL)
+            test->once(call);
+        else
+            run_at_every_size(call, test);
+        printf("%s  %s: %s\n", failures == 0 ? "ok" : "FAILED", call->name, test->name);
+        *(failures == 0 ? &passed : &failed) += 1;
+    }
+}
+
+int end_of_tests(void)
+{
+    printf("%u passed, %u failed\n", passed, failed);
+    return failed == 0 ? 0 : 1;
+}
+
+uint64_t draw(uint64_t below)
+{
+    random_state += 0x9e3779b97f4a7c15;
+    uint64_t mixed = (random_state ^ random_state >> 30) * 0xbf58476d1ce4e5b9;
+    mixed = (mixed ^ mixed >> 27) * 0x94d049bb133111eb;
+    return (mixed ^ mixed >> 31) % below;
+}
+
+size_t beyond(size_t which, size_t good, size_t most)
+{
+    const size_t word = (size_t)1 << 32, top = (size_t)1 << 63;
+    const size_t all[BEYOND] = {0,    most + 1,    255, 256 | good, 65536 | good,
+                                word, word | good, top, top | good, SIZE_MAX};
+    return all[which];
+}
+
+/* A lent buffer between guards, one right before its first byte and one right behind its last. */
+struct lent {
+    uint8_t room[GUARD + ROW_MOST + GUARD];
+};
+
+/* No guard byte is a module or a setting. */
+static uint8_t guard_byte(size_t i)
+{
+    return (uint8_t)(0x80 | i * 37);
+}
+
+/* An empty row is lent as NULL. */
+static uint8_t *lend(struct lent *lent, const struct row *row)
+{
+    for (size_t i = 0; i < GUARD; i++) {
+        lent->room[i] = guard_byte(i);
+        lent->room[GUARD + row->length + i] = guard_byte(GUARD + i);
+    }
+    memcpy(lent->room + GUARD, row->bytes, row->length);
+    return row->length == 0 ? NULL : lent->room + GUARD;
+}
+
+/* Reads a lent buffer back into its row; false where a guard was written. */
+static bool take_back(const struct lent *lent, struct row *row)
+{
+    memcpy(row->bytes, lent->room + GUARD, row->length);
+    for (size_t i = 0; i < GUARD; i++)
+        if (lent->room[i] != guard_byte(i) || lent->room[GUARD + row->length + i] != guard_byte(GUARD + i))
+            return false;
+    return true;
+}
+
+static uint64_t apply(const struct function *function, const struct asked *asked, uint8_t *const lent[ROWS])
+{
+    const size_t first = asked->lent[0].length, second = asked->lent[1].length;
+    if (function->of_sizes != NULL)
+        return function->of_sizes(asked->n, asked->k);
+    if (function->reading != NULL)
+        return function->reading(asked->n, asked->k, lent[0], first, lent[1], second);
+    return function->writing(asked->n, asked->k, asked->argument, lent[0], first, lent[1], second);
+}
+
+/* What a call came to, or is known to come to. */
+struct outcome {
+    uint64_t answer;
+    bool guards_whole;
+    const struct row *left;
+};
+
+static void print_rows(const struct row *rows)
+{
+    for (const struct row *row = rows; row < rows + ROWS; row++) {
+        printf(" | %zu bytes", row->length);
+        for (size_t i = 0; i < row->length && i < BYTES_PRINTED; i++)
+            printf(" %u", row->bytes[i]);
+    }
+    printf("\n");
+}
+
+/* Counts a failure where the two differ; the first few of a test are printed. */
+static void hold(const struct call *call, const struct asked *asked, struct outcome came,
+                 struct outcome known)
+{
+    bool same = came.answer == known.answer && came.guards_whole;
+    for (size_t i = 0; i < ROWS; i++)
+        same = same && memcmp(came.left[i].bytes, known.left[i].bytes, asked->lent[i].length) == 0;
+    if (same || ++failures > FAILURES_PRINTED)
+        return;
+    printf("  asked     %s n=%zu k=%zu argument=%zu", call->name, asked->n, asked->k, asked->argument);
+    print_rows(asked->lent);
+    printf("  came      answer 0x%" PRIx64, came.answer);
+    print_rows(came.left);
+    printf("  expected  answer 0x%" PRIx64, known.answer);
+    print_rows(known.left);
+    printf("%s", came.guards_whole ? "" : "  a byte beside a lent buffer was written\n");
+}
+
+uint64_t ask(const struct call *call, struct asked *asked)
+{
+    struct asked came = *asked, known = *asked;
+    struct lent lent[ROWS];
+    uint8_t *for_library[ROWS], *for_reference[ROWS];
+    for (size_t i = 0; i < ROWS; i++) {
+        for_library[i] = lend(&lent[i], &asked->lent[i]);
+        for_reference[i] = known.lent[i].bytes;
+    }
+    const uint64_t answer = apply(&call->library, asked, for_library);
+    const uint64_t known_answer = apply(&call->reference, asked, for_reference);
+    bool guards_whole = true;
+    for (size_t i = 0; i < ROWS; i++)
+        guards_whole = take_back(&lent[i], &came.lent[i]) && guards_whole;
+    hold(call, asked, (struct outcome){answer, guards_whole, came.lent},
+         (struct outcome){known_answer, true, known.lent});
+    *asked = came;
+    return answer;
+}
+
+void expect(const struct call *call, const struct asked *asked, uint64_t answer, const struct asked *left)
+{
+    struct asked came = *asked;
+    const unsigned long failures_before = failures;
+    const struct outcome outcome = {ask(call, &came), true, came.lent};
+    if (failures == failures_before)
+        hold(call, asked, outcome, (struct outcome){answer, true, left->lent});
+}
+
+void expect_refused(const struct call *call, const struct asked *asked, uint64_t number, uint64_t place)
+{
+    expect(call, asked, refused(number, place), asked);
+}

@@ -1,0 +1,73 @@
+/*
+ * The test frame. A test asks the library and the reference the same, and holds the answer and every
+ * lent byte to the reference's. In the tests, 01 is 01-scope.md.
+ */
+#ifndef TEST_H
+#define TEST_H
+
+#include <stdbool.h>
+#include <stddef.h>
+#include <stdint.h>
+
+#define COUNT_OF(array) (sizeof(array) / sizeof((array)[0]))
+
+/* The rows that a call is lent. ROW_MOST has room for a length whose low byte alone is right. */
+enum { MODULES, SETTINGS, ROWS, ROW_MOST = 300, REFUSALS_MOST = 10 };
+
+struct row {
+    size_t length;
+    uint8_t bytes[ROW_MOST];
+};
+
+/* What a call is asked: the sizes, the further number that some calls take, and what it is lent. */
+struct asked {
+    size_t n, k, argument;
+    struct row lent[ROWS];
+};
+
+/* A function by what it takes: one of these is set. */
+struct function {
+    uint64_t (*of_sizes)(size_t n, size_t k);
+    uint64_t (*reading)(size_t n, size_t k, const uint8_t *, size_t, const uint8_t *, size_t);
+    uint64_t (*writing)(size_t n, size_t k, size_t argument, uint8_t *, size_t, uint8_t *, size_t);
+};
+
+/* A call under test, with its refusals in the order in which they are tried. */
+struct call {
+    const char *name;
+    unsigned refusals[REFUSALS_MOST];
+    struct function library, reference;
+};
+
+/* A named test, whose body is run once or at every permitted size. One body serves several calls. */
+struct test {
+    const char *name;
+    void (*once)(const struct call *call);
+    void (*at_every_size)(const struct call *call, size_t n, size_t k);
+};
+
+void run_tests(const struct call *call, const struct test *tests, size_t count);
+
+/* Prints how many tests passed and failed, and answers the program's exit status. */
+int end_of_tests(void);
+
+/* A number below `below`, from a stream that begins anew with each test. */
+uint64_t draw(uint64_t below);
+
+/* The numbers that may stand for `good`, one of 1..most, and are refused; several have its low bits. */
+enum { BEYOND = 10 };
+size_t beyond(size_t which, size_t good, size_t most);
+
+/* Makes the call and holds it to the reference. Leaves in `asked` what the call left in the buffers. */
+uint64_t ask(const struct call *call, struct asked *asked);
+
+/* Asks, and holds answer and buffers also to those that the test itself knows. */
+void expect(const struct call *call, const struct asked *asked, uint64_t answer, const struct asked *left);
+void expect_refused(const struct call *call, const struct asked *asked, uint64_t number, uint64_t place);
+
+/* One for each file of tests. */
+void sizes_tests(void);
+void check_tests(void);
+void flip_tests(void);
+
+#endif

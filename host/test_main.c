@@ -1,0 +1,14 @@
+/* Runs every test of the library. The last line says how many passed and how many failed. */
+#include "test.h"
+
+#include <stdio.h>
+
+int main(void)
+{
+    /* by lines: where a call ends the program, the tests before it are on record */
+    setvbuf(stdout, NULL, _IOLBF, BUFSIZ);
+    sizes_tests();
+    check_tests();
+    flip_tests();
+    return end_of_tests();
+}
