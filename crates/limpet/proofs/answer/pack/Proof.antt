@@ -1,5 +1,7 @@
 -- `limpet::answer::pack` meets its contract: each arm is the packing of one kind of verdict. Assumes nothing.
+use mathlib.Core.Path.{_∙_, ap, sym}
 use borrow.Author.Needs.{needs}
+use Rattle.limpet.specs.Answer.{answerOf, packed}
 use Rattle.limpet.proofs.Answers.{packed-fine, packed-refused}
 use Rattle.limpet.proofs.answer.pack.Statement.{statement}
 use Rattle.limpet.proofs.answer.pack.Tie as tie
@@ -26,12 +28,14 @@ add-result : tie.Need-add-result
 add-result c = search needs
 
 returns : tie.Need-returns
-returns c = let is = c .enum-told .given .1 in cc (packed-fine (c .before .before .args .value))
+returns c =
+    let value = c .before .before .args .value in
+    packed-fine value ∙ ap (λ v. packed (answerOf v value)) (sym (c .enum-told .given .1))
 
 returns-2 : tie.Need-returns-2
 returns-2 c =
-    let held = c .before .verdict .given in
-    cc (packed-refused (held .0 .0) (held .0 .1 .0) (c .before .before .before .args .value))
+    let value = c .before .before .before .args .value in
+    packed-refused _ _ value ∙ ap (λ v. packed (answerOf v value)) (sym (c .before .verdict .given .1))
 
 pub pack-spec : {M : Type 1} → statement M
 pack-spec =
