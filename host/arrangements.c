@@ -1,10 +1,21 @@
-/* Arrangements to ask with, and the tests of every call that checks one: see arrangements.h. */
+/* Arrangements and ranks to ask with: see arrangements.h. */
 #include "arrangements.h"
 
-#include "limpet.h"
 #include "reference.h"
 
 #include <stdio.h>
+
+const char *const round_of_two[TOTAL_OF_TWO] = {"1:0 2:0", "1:1 2:0", "2:1 1:0", "2:0 1:0",
+                                                "1:1 2:1", "1:0 2:1", "2:0 1:1", "2:1 1:1"};
+
+/* Rows of n bytes, with random bytes in them and behind. */
+static struct asked with_random_rows(size_t n, size_t k, uint64_t argument)
+{
+    struct asked asked = {.n = n, .k = k, .argument = argument};
+    asked.lent[MODULES].length = asked.lent[SETTINGS].length = n;
+    scribble(&asked);
+    return asked;
+}
 
 struct asked written(size_t k, const char *slots)
 {
@@ -17,11 +28,30 @@ struct asked written(size_t k, const char *slots)
     return asked;
 }
 
+struct asked home(size_t n, size_t k)
+{
+    struct asked asked = with_random_rows(n, k, 0);
+    for (size_t i = 0; i < n; i++) {
+        asked.lent[MODULES].bytes[i] = (uint8_t)(i + 1);
+        asked.lent[SETTINGS].bytes[i] = 0;
+    }
+    return asked;
+}
+
+struct asked last(size_t n, size_t k)
+{
+    struct asked asked = with_random_rows(n, k, reference_round_total(n, k) - 1);
+    for (size_t i = 0; i < n; i++) {
+        asked.lent[MODULES].bytes[i] = (uint8_t)(n - i);
+        asked.lent[SETTINGS].bytes[i] = (uint8_t)(k - 1);
+    }
+    return asked;
+}
+
 struct asked random_arrangement(size_t n, size_t k)
 {
-    struct asked asked = {.n = n, .k = k, .argument = 1 + draw(n)};
+    struct asked asked = with_random_rows(n, k, 1 + draw(n));
     uint8_t *modules = asked.lent[MODULES].bytes;
-    asked.lent[MODULES].length = asked.lent[SETTINGS].length = n;
     for (size_t i = 0; i < n; i++) {
         const size_t from = draw(i + 1);
         modules[i] = modules[from];
@@ -31,158 +61,25 @@ struct asked random_arrangement(size_t n, size_t k)
     return asked;
 }
 
-enum { LENGTHS = 6 };
-
-/* Of these lengths only the first, n, is right. */
-static size_t length_at(size_t which, size_t n)
+struct asked random_rank(size_t n, size_t k)
 {
-    const size_t all[LENGTHS] = {n, 0, n - 1, n + 1, 256 + n, ROW_MOST};
-    return all[which];
+    const uint64_t total = reference_round_total(n, k);
+    return with_random_rows(n, k, draw(total == 0 ? UINT64_MAX : total));
 }
 
-/*
- * Has the call refused by `number`, for 5, 6 and 7 at `slot`; 6 needs a slot behind the first, and 3 a
- * size that is too large from the start. Of several faults the higher numbers are made first.
- */
-static void spoil(struct asked *asked, unsigned number, size_t slot)
+void make_flip(struct asked *asked, size_t j)
 {
-    uint8_t *modules = asked->lent[MODULES].bytes, *settings = asked->lent[SETTINGS].bytes;
-    switch (number) {
-    case 1: asked->n = beyond(draw(BEYOND), asked->n, LIMPET_MOST_SLOTS); break;
-    case 2: asked->k = beyond(draw(BEYOND), asked->k, LIMPET_MOST_SETTINGS); break;
-    case 4: asked->lent[draw(ROWS)].length = length_at(1 + draw(LENGTHS - 1), asked->n); break;
-    case 5: modules[slot - 1] = (uint8_t)(draw(4) == 0 ? 0 : 255 - draw(255 - asked->n)); break;
-    case 6: modules[slot - 1] = modules[draw(slot - 1)]; break;
-    case 7: settings[slot - 1] = (uint8_t)(255 - draw(256 - asked->k)); break;
-    case 9: asked->argument = beyond(draw(BEYOND), asked->argument, asked->n); break;
-    default: break;
-    }
+    const size_t n = asked->n;
+    reference_flip(n, asked->k, j, asked->lent[MODULES].bytes, n, asked->lent[SETTINGS].bytes, n);
 }
 
-static size_t first_slot(unsigned number)
+void scribble(struct asked *asked)
 {
-    return number == 6 ? 2 : 1;
-}
-
-static void sizes(const struct call *call)
-{
-    for (size_t n = 1; n <= LIMPET_MOST_SLOTS; n++)
-        for (size_t k = 1; k <= LIMPET_MOST_SETTINGS; k++)
-            for (size_t which = 0; which < BEYOND; which++) {
-                struct asked asked = random_arrangement(n, k), fair = asked;
-                ask(call, &fair);
-                asked.k = beyond(which, k, LIMPET_MOST_SETTINGS);
-                expect_refused(call, &asked, 2, 0);
-                asked.n = beyond(which, n, LIMPET_MOST_SLOTS);
-                expect_refused(call, &asked, 1, 0);
-                asked.k = k;
-                expect_refused(call, &asked, 1, 0);
-            }
-}
-
-static void lengths(const struct call *call, size_t n, size_t k)
-{
-    for (size_t first = 0; first < LENGTHS; first++)
-        for (size_t second = first == 0 ? 1 : 0; second < LENGTHS; second++) {
-            struct asked asked = random_arrangement(n, k);
-            asked.lent[MODULES].length = length_at(first, n);
-            asked.lent[SETTINGS].length = length_at(second, n);
-            expect_refused(call, &asked, 4, 0);
+    uint64_t drawn = 0;
+    for (struct row *row = asked->lent; row < asked->lent + ROWS; row++)
+        for (size_t i = 0; i < ROW_MOST; i++, drawn >>= 8) {
+            if (i % sizeof drawn == 0)
+                drawn = draw(UINT64_MAX);
+            row->bytes[i] = (uint8_t)drawn;
         }
-}
-
-static void bad_bytes(const struct call *call, size_t n, size_t k)
-{
-    const struct asked good = random_arrangement(n, k);
-    for (size_t slot = 1; slot <= n; slot++)
-        for (unsigned value = 0; value <= 255; value++) {
-            struct asked module = good, setting = good;
-            module.lent[MODULES].bytes[slot - 1] = (uint8_t)value;
-            setting.lent[SETTINGS].bytes[slot - 1] = (uint8_t)value;
-            if (value == 0 || value > n)
-                expect_refused(call, &module, 5, slot);
-            if (value >= k)
-                expect_refused(call, &setting, 7, slot);
-        }
-}
-
-static void repeats(const struct call *call, size_t n, size_t k)
-{
-    for (size_t slot = 2; slot <= n; slot++)
-        for (size_t lower = 1; lower < slot; lower++) {
-            struct asked asked = random_arrangement(n, k);
-            asked.lent[MODULES].bytes[slot - 1] = asked.lent[MODULES].bytes[lower - 1];
-            expect_refused(call, &asked, 6, slot);
-        }
-}
-
-static void two_faults_at_all_slots(const struct call *call, unsigned low, unsigned high)
-{
-    const bool too_large = low == 3 || high == 3;
-    const size_t n = too_large ? 17 : 7, k = too_large ? 2 : 3;
-    for (size_t low_slot = first_slot(low); low_slot <= n; low_slot++)
-        for (size_t high_slot = first_slot(high); high_slot <= n; high_slot++) {
-            struct asked asked = random_arrangement(n, k);
-            spoil(&asked, high, high_slot);
-            spoil(&asked, low, low_slot);
-            const size_t bad_slot = low == high && high_slot < low_slot ? high_slot : low_slot;
-            expect_refused(call, &asked, low, low >= 5 && low <= 7 ? bad_slot : 0);
-        }
-}
-
-static void two_faults(const struct call *call)
-{
-    for (const unsigned *low = call->refusals; *low != 0; low++)
-        for (const unsigned *high = low; *high != 0; high++)
-            two_faults_at_all_slots(call, *low, *high);
-}
-
-static uint8_t take_digit(unsigned *code, unsigned base)
-{
-    const unsigned digit = *code % base;
-    *code /= base;
-    return (uint8_t)digit;
-}
-
-static void small_inputs(const struct call *call)
-{
-    const unsigned inputs = 5 * (6 * 6 * 6) * (4 * 4 * 4);
-    for (unsigned input = 0; input < inputs; input++) {
-        struct asked asked = written(2, "1:0 2:0 3:0");
-        unsigned code = input;
-        asked.argument = take_digit(&code, 5);
-        for (size_t i = 0; i < asked.n; i++) {
-            asked.lent[MODULES].bytes[i] = take_digit(&code, 6);
-            asked.lent[SETTINGS].bytes[i] = take_digit(&code, 4);
-        }
-        ask(call, &asked);
-    }
-}
-
-static void random_inputs(const struct call *call)
-{
-    for (int times = 0; times < 50000; times++) {
-        const size_t n = 1 + draw(LIMPET_MOST_SLOTS), k = 1 + draw(LIMPET_MOST_SETTINGS);
-        struct asked asked = random_arrangement(n, k);
-        for (size_t i = REFUSALS_MOST; i-- > 0;) {
-            const size_t slot = 1 + draw(n);
-            if (draw(4) == 0 && slot >= first_slot(call->refusals[i]))
-                spoil(&asked, call->refusals[i], slot);
-        }
-        ask(call, &asked);
-    }
-}
-
-void arrangement_tests(const struct call *call)
-{
-    static const struct test tests[] = {
-        {"good arrangements of every size; 1, 2 and 3 for bad sizes", .once = sizes},
-        {"4 for either buffer shorter, longer or empty", .at_every_size = lengths},
-        {"5 and 7 for every module and setting out of range, at every slot", .at_every_size = bad_bytes},
-        {"6 for a module that stands twice, at every two slots", .at_every_size = repeats},
-        {"of two faults the lower number, of one number the lower slot", .once = two_faults},
-        {"n = 3, k = 2 with all modules of 0..5 and settings of 0..3", .once = small_inputs},
-        {"good and damaged inputs at random", .once = random_inputs},
-    };
-    run_tests(call, tests, COUNT_OF(tests));
 }

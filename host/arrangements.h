@@ -1,4 +1,4 @@
-/* Arrangements to ask with, and the tests that every call has which checks an arrangement. */
+/* Arrangements and ranks to ask with. */
 #ifndef ARRANGEMENTS_H
 #define ARRANGEMENTS_H
 
@@ -7,10 +7,24 @@
 /* From slots as 01 writes them, "1:0 2:0"; n is their number. The argument is 1. */
 struct asked written(size_t k, const char *slots);
 
+/* The round of n = 2, k = 2 by rank, as 01 writes it. */
+enum { TOTAL_OF_TWO = 8 };
+extern const char *const round_of_two[TOTAL_OF_TWO];
+
+/* The first and the last arrangement of a round: home, and n:k-1 .. 1:k-1. The argument is their rank. */
+struct asked home(size_t n, size_t k);
+struct asked last(size_t n, size_t k);
+
 /* A random arrangement, for any n of 1..20 and k of 1..8, with a random flip length as argument. */
 struct asked random_arrangement(size_t n, size_t k);
 
-/* The call's refusals are 1 to 7, or 1 to 7 and 9 with a flip length as argument. */
-void arrangement_tests(const struct call *call);
+/* A random rank as argument, any number where no T limits it, and random bytes to be written over. */
+struct asked random_rank(size_t n, size_t k);
+
+/* Makes the reference's flip of length j on an arrangement. */
+void make_flip(struct asked *asked, size_t j);
+
+/* Puts random bytes into every place of the rows. */
+void scribble(struct asked *asked);
 
 #endif

@@ -3,7 +3,8 @@
  *
  * There are n slots and n modules numbered 1 to n, each with a setting 0 to k-1. An arrangement is lent
  * as two buffers of n bytes: modules by slot, settings by slot; slot 1, the front, is the first byte. A
- * round has T = k^n * n! arrangements.
+ * round has T = k^n * n! arrangements, numbered by their ranks, 0 to T-1. Home, 1:0 2:0 .. n:0, has rank 0;
+ * one flip leads from each arrangement to that of the next rank, and from the last back to home.
  *
  * The caller's duty, which no check can see: a buffer is lent as a pointer and then its length, has the
  * length passed with it, and overlaps no other buffer lent to the same call. A pointer may be NULL only
@@ -21,6 +22,7 @@
  *    5  a module is outside 1..n
  *    6  a module stands twice
  *    7  a setting is k or more
+ *    8  a rank is T or more
  *    9  a flip length is 0 or above n
  *
  * The place of 5, 6 and 7 is the lowest bad slot, counted from 1; for 6 the lowest slot whose module
@@ -60,6 +62,18 @@ uint64_t limpet_check(size_t n, size_t k, const uint8_t *modules, size_t modules
  */
 uint64_t limpet_flip(size_t n, size_t k, size_t j, uint8_t *modules, size_t modules_length,
                      uint8_t *settings, size_t settings_length);
+
+/* Has what is lent a rank? Value 0; the rank itself comes from limpet_rank_value. Refusals 1 to 7. */
+uint64_t limpet_rank(size_t n, size_t k, const uint8_t *modules, size_t modules_length,
+                     const uint8_t *settings, size_t settings_length);
+
+/* The plain number of the arrangement's rank, or 0 where limpet_rank refuses. */
+uint64_t limpet_rank_value(size_t n, size_t k, const uint8_t *modules, size_t modules_length,
+                           const uint8_t *settings, size_t settings_length);
+
+/* Writes the arrangement of the rank, whatever the buffers hold. Value 0. Refusals 1 to 4, then 8. */
+uint64_t limpet_unrank(size_t n, size_t k, uint64_t rank, uint8_t *modules, size_t modules_length,
+                       uint8_t *settings, size_t settings_length);
 
 #ifdef __cplusplus
 }

@@ -1,6 +1,7 @@
 /*
- * The reference: plain C written from 01-scope.md alone, which shares nothing with the library. Each
- * function takes and answers what limpet.h says of the call of the same name.
+ * The reference: plain C written from 01-scope.md and, for ranks, from document 000, section 4, alone. It
+ * shares nothing with the library. Each function takes and answers what limpet.h says of the call of the
+ * same name.
  */
 #ifndef REFERENCE_H
 #define REFERENCE_H
@@ -17,5 +18,17 @@ uint64_t reference_check(size_t n, size_t k, const uint8_t *modules, size_t modu
                          const uint8_t *settings, size_t settings_length);
 uint64_t reference_flip(size_t n, size_t k, size_t j, uint8_t *modules, size_t modules_length,
                         uint8_t *settings, size_t settings_length);
+uint64_t reference_rank(size_t n, size_t k, const uint8_t *modules, size_t modules_length,
+                        const uint8_t *settings, size_t settings_length);
+uint64_t reference_rank_value(size_t n, size_t k, const uint8_t *modules, size_t modules_length,
+                              const uint8_t *settings, size_t settings_length);
+uint64_t reference_unrank(size_t n, size_t k, uint64_t rank, uint8_t *modules, size_t modules_length,
+                          uint8_t *settings, size_t settings_length);
+
+/* The same without a check, to be timed: what the call takes is all that may be passed. */
+uint64_t unchecked_rank_value(size_t n, size_t k, const uint8_t *modules, size_t modules_length,
+                              const uint8_t *settings, size_t settings_length);
+uint64_t unchecked_unrank(size_t n, size_t k, uint64_t rank, uint8_t *modules, size_t modules_length,
+                          uint8_t *settings, size_t settings_length);
 
 #endif

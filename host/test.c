@@ -58,6 +58,14 @@ size_t beyond(size_t which, size_t good, size_t most)
     return all[which];
 }
 
+uint64_t rank_beyond(size_t which, uint64_t good, uint64_t total)
+{
+    const uint64_t word = (uint64_t)1 << 32, top = (uint64_t)1 << 63; /* every T is below 2^63 */
+    const uint64_t all[RANKS_BEYOND] = {total,      total + 1,   2 * total, total + word,
+                                        top | good, top | total, UINT64_MAX};
+    return all[which];
+}
+
 /* A lent buffer between guards, one right before its first byte and one right behind its last. */
 struct lent {
     uint8_t room[GUARD + ROW_MOST + GUARD];
@@ -166,5 +174,5 @@ void expect(const struct call *call, const struct asked *asked, uint64_t answer,
 
 void expect_refused(const struct call *call, const struct asked *asked, uint64_t number, uint64_t place)
 {
-    expect(call, asked, refused(number, place), asked);
+    expect(call, asked, call->plain ? 0 : refused(number, place), asked);
 }

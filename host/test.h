@@ -37,6 +37,10 @@ struct call {
     const char *name;
     unsigned refusals[REFUSALS_MOST];
     struct function library, reference;
+    bool plain; /* answers a plain number, which is 0 where it refuses */
+
+    /* What the call takes where it takes n and k, at random; for any n of 1..20 and k of 1..8. */
+    struct asked (*fair)(size_t n, size_t k);
 };
 
 /* A named test, whose body is run once or at every permitted size. One body serves several calls. */
@@ -58,6 +62,10 @@ uint64_t draw(uint64_t below);
 enum { BEYOND = 10 };
 size_t beyond(size_t which, size_t good, size_t most);
 
+/* The ranks that may stand for `good`, one below `total`, and are refused. */
+enum { RANKS_BEYOND = 7 };
+uint64_t rank_beyond(size_t which, uint64_t good, uint64_t total);
+
 /* Makes the call and holds it to the reference. Leaves in `asked` what the call left in the buffers. */
 uint64_t ask(const struct call *call, struct asked *asked);
 
@@ -69,5 +77,6 @@ void expect_refused(const struct call *call, const struct asked *asked, uint64_t
 void sizes_tests(void);
 void check_tests(void);
 void flip_tests(void);
+void rank_tests(void);
 
 #endif

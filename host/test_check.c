@@ -1,10 +1,7 @@
 /* The tests of limpet_check. */
 #include "arrangements.h"
-#include "limpet.h"
-#include "reference.h"
-
-static const struct call check_call = {
-    "check", {1, 2, 3, 4, 5, 6, 7}, {.reading = limpet_check}, {.reading = reference_check}};
+#include "calls.h"
+#include "refusals.h"
 
 static void named_arrangements(const struct call *call)
 {

@@ -1,10 +1,7 @@
 /* The tests of limpet_flip. */
 #include "arrangements.h"
-#include "limpet.h"
-#include "reference.h"
-
-static const struct call flip_call = {
-    "flip", {1, 2, 3, 4, 5, 6, 7, 9}, {.writing = limpet_flip}, {.writing = reference_flip}};
+#include "calls.h"
+#include "refusals.h"
 
 static void expect_flip(const struct call *call, size_t k, size_t j, const char *before, const char *after)
 {
@@ -21,13 +18,10 @@ static void worked_flips(const struct call *call)
     expect_flip(call, 1, 1, "1:0", "1:0");
 }
 
-static void round_of_two(const struct call *call)
+static void flips_of_two(const struct call *call)
 {
-    static const char *const listing[] = {"1:0 2:0", "1:1 2:0", "2:1 1:0", "2:0 1:0",
-                                          "1:1 2:1", "1:0 2:1", "2:0 1:1", "2:1 1:1"};
-    const size_t total = COUNT_OF(listing);
-    for (size_t rank = 0; rank < total; rank++)
-        expect_flip(call, 2, 1 + rank % 2, listing[rank], listing[(rank + 1) % total]);
+    for (size_t rank = 0; rank < TOTAL_OF_TWO; rank++)
+        expect_flip(call, 2, 1 + rank % 2, round_of_two[rank], round_of_two[(rank + 1) % TOTAL_OF_TWO]);
 }
 
 static void lengths(const struct call *call, size_t n, size_t k)
@@ -61,7 +55,7 @@ void flip_tests(void)
 {
     static const struct test tests[] = {
         {"the flips that 01 works out", .once = worked_flips},
-        {"the round of n = 2, k = 2 by flips 1 and 2", .once = round_of_two},
+        {"the round of n = 2, k = 2 by flips 1 and 2", .once = flips_of_two},
         {"every length of 1..n, and 9 for every other", .at_every_size = lengths},
         {"2k flips of one length lead back", .at_every_size = back_after_2k},
     };

@@ -10,5 +10,6 @@ int main(void)
     sizes_tests();
     check_tests();
     flip_tests();
+    rank_tests();
     return end_of_tests();
 }

@@ -1,18 +1,12 @@
 /* The tests of limpet_round and limpet_round_total, and of the macros that take an answer apart. */
+#include "calls.h"
 #include "limpet.h"
-#include "reference.h"
-#include "test.h"
 
 __extension__ typedef unsigned __int128 wide;
 
 _Static_assert(LIMPET_NUMBER(0xfedcba987654f705) == 5, "bits 0 to 7");
 _Static_assert(LIMPET_PLACE(0xfedcba987654f705) == 0xf7, "bits 8 to 15");
 _Static_assert(LIMPET_VALUE(0xfedcba987654f705) == 0xfedcba987654, "bits 16 and up");
-
-static const struct call round_call = {
-    "round", {1, 2, 3}, {.of_sizes = limpet_round}, {.of_sizes = reference_round}};
-static const struct call total_call = {
-    "round total", {0}, {.of_sizes = limpet_round_total}, {.of_sizes = reference_round_total}};
 
 /* The sizes 0..SMALL, and then those beyond. */
 enum { SMALL = 24, TRIED = SMALL + 1 + BEYOND };

@@ -60,6 +60,13 @@ module _ (n k : ℕ) (M S : ℕ → ℕ) where
         holds-nowhere (badSetting k S) n (λ i h. lt-leb k (S i) (v .cell i h .setting)),
       )
 
+-- what agrees with a valid arrangement on its slots is valid
+pub valid-ext : {n k : ℕ} {M S M' S' : ℕ → ℕ} → ((i : ℕ) → i < n → M i ≡ M' i) → ((i : ℕ) → i < n → S i ≡ S' i) → Valid n k M S → Valid n k M' S'
+valid-ext {n} {k} {M} {S} {M'} {S'} same-M same-S v = record {
+  cell = λ i h. let was = v .cell i h in omega (arith, same-M i h, same-S i h);
+  once = λ i j hi hj e. v .once i j hi hj (same-M i hi ∙ e ∙ sym (same-M j hj));
+}
+
 -- ---- an arrangement in two lent buffers
 
 pub record Accepted (n k : ℕ) (ms ss : List ℕ) : Type 0 where

@@ -1,4 +1,6 @@
 // One flip: the first j slots turned round, and their settings raised by one.
+use crate::check;
+use crate::copy;
 use sizes::MOST_SLOTS;
 use sizes::Verdict;
 ghost use mathlib.Core.Path.{_≡_};
@@ -12,7 +14,7 @@ ghost use Rattle.arrangement.specs.Flip.{raised, flippedModules, flipped
 pub fn judge(n: usize, k: usize, j: usize, modules: &[u8], settings: &[u8]) -> Verdict
     ensures { λ r. ⌜ r ≡ flipVerdict n k j (now (modules .entry)) (now (settings .entry)) ⌝ }
 {
-    let arrangement = crate::check::judge(n, k, modules, settings);
+    let arrangement = check::judge(n, k, modules, settings);
     if arrangement.refuses() {
         return arrangement;
     }
@@ -60,18 +62,6 @@ fn turn(k: usize, j: usize, modules: &[u8], settings: &[u8]) -> Turned
     }
 }
 
-// Writes the first j bytes of a copy over those of a row.
-fn write_back(j: usize, copy: [u8; MOST_SLOTS], slots: &mut [u8])
-    requires { ⌜ (j ≤ mostSlots) × (j ≤ length (now slots)) ⌝ }
-    ensures { λ _. ⌜ now (slots .exit) ≡ front (at copy) j (now (slots .entry)) ⌝ }
-{
-    let mut i = 0;
-    while i < j {
-        slots[i] = copy[i];
-        i += 1;
-    }
-}
-
 // The flip itself, of an arrangement that has been checked.
 pub fn flip(k: usize, j: usize, modules: &mut [u8], settings: &mut [u8])
     requires { ⌜ Flippable k j (now modules) (now settings) ⌝ }
@@ -81,6 +71,6 @@ pub fn flip(k: usize, j: usize, modules: &mut [u8], settings: &mut [u8])
     let turned = turn(k, j, modules, settings);
     let turned_modules = turned.modules;
     let turned_settings = turned.settings;
-    write_back(j, turned_modules, modules);
-    write_back(j, turned_settings, settings);
+    copy::store(j, turned_modules, modules);
+    copy::store(j, turned_settings, settings);
 }

@@ -52,6 +52,17 @@ holds-nowhere test zero all = refl
 holds-nowhere test (suc n) all =
     rw (holds-nowhere test n (λ i h. all i (omega arith)), all n (omega arith))
 
+-- by cases: it holds at none of n slots, or at one and at none below that
+pub by-lowest : {P : Type 0} (test : ℕ → Bool) (n : ℕ) → (((i : ℕ) → i < n → test i ≡ false) → lowest test n ≡ 0 → P) →
+    ((i : ℕ) → i < n → test i ≡ true → ((h : ℕ) → h < i → test h ≡ false) → lowest test n ≡ suc i → P) → P
+unfolding lowest orElse
+by-lowest test zero none one = none (λ i h. absurd (not-suc-le-zero h)) refl
+by-lowest test (suc n) none one =
+    by-lowest test n
+    (λ all z. by-test (test n) (λ t. one n (omega arith) t all (rw (z, t)))
+    (λ f. none (λ i h. by-last (λ x. test x ≡ false) h (λ l. all i l) f) (rw (z, f))))
+    (λ i h t low e. one i (omega arith) t low (rw (e, orElse)))
+
 -- two tests that agree on each slot have the same lowest
 pub lowest-ext : (test other : ℕ → Bool) (n : ℕ) → ((i : ℕ) → i < n → test i ≡ other i) → lowest test n ≡ lowest other n
 unfolding lowest

@@ -4,7 +4,7 @@ use mathlib.Core.Path.{_≡_, refl, sym, _∙_}
 use mathlib.Core.Bool.{Bool, true, false}
 use mathlib.Core.List.{List, [], _∷_}
 use Prim.Native.Nat.{ℕ, zero, suc, _+_, _*_, _^_, _-_, _≤_, _<_}
-use native.Mathlib.Nat.{mul-assoc, mul-comm, mul-left-comm, pow-succ', le-trans, le-refl, one-le-mul, one-le-pow, mul-le-mul-right}
+use native.Mathlib.Nat.{mul-assoc, mul-comm, mul-left-comm, pow-succ', le-trans, le-refl, one-le-mul, one-le-pow, mul-le-mul-right, mul-le-mul}
 use native.Mathlib.Numerals.{add-one, unary-clauses}
 use native.Mathlib.Omega.{arith}
 use lib.Dec.{ltb, ltb→lt}
@@ -107,6 +107,14 @@ not-refused n k p =
     faultless 1 (in-range 1 mostSlots n (p .n-low) (p .n-high))
     (faultless 2 (in-range 1 mostSettings k (p .k-low) (p .k-high))
     (last-faultless 3 (le-ltb mostArrangements (weight n k) (p .few))))
+
+-- at permitted sizes, the products by which a weight grows by one place more fit
+module _ {n k : ℕ} (p : Permitted n k) (i : ℕ) (h : i < n) where
+  pub factor-small : k * (i + 1) ≤ mostSettings * mostSlots
+  factor-small = let few : i + 1 ≤ mostSlots = omega arith in mul-le-mul (p .k-high) few
+
+  pub product-fits : {t : ℕ} → t ≡ weight i k → t * (k * (i + 1)) ≤ mostArrangements
+  product-fits e = omega (arith, one-more i k e, weight-mono (i + 1) n k (p .k-low) (omega arith))
 
 pub small-sizes : (n k : ℕ) → Small (sizesVerdict n k)
 unfolding sizesVerdict

@@ -1,12 +1,11 @@
 -- `sizes::total` meets its contract. The loop's invariant: t is the weight of i places. The weight of one place more is still
 -- at most T, so no product wraps; the measure is n less i. Assumes nothing.
-use Prim.Native.Nat.{_+_, _*_, _-_, _≤_}
+use Prim.Native.Nat.{_-_, _≤_}
 use mathlib.Core.Path.{_≡_, sym, _∙_}
-use native.Mathlib.Nat.{mul-le-mul}
 use native.Mathlib.Omega.{arith}
 use borrow.Author.Needs.{needs}
 use Rattle.sizes.specs.Sizes.{weight}
-use Rattle.sizes.proofs.Weights.{weight-zero, one-more, weight-mono}
+use Rattle.sizes.proofs.Weights.{weight-zero, one-more, factor-small, product-fits}
 use Rattle.sizes.proofs.total.Statement.{statement}
 use Rattle.sizes.proofs.total.Tie as tie
 
@@ -23,20 +22,11 @@ add-i : tie.Need-add-i Inv-loop μ-loop
 add-i c = search needs
 
 mul-t : tie.Need-mul-t Inv-loop μ-loop
-mul-t c =
-    let i = c .before .loop .i in
-    let k = c .before .before .args .k in
-    let p = c .before .before .pre in
-    let few : i + 1 ≤ 20 = omega arith in
-    let h : k * (i + 1) ≤ 8 * 20 = mul-le-mul (p .k-high) few in omega arith
+mul-t c = omega (arith, factor-small (c .before .before .pre) (c .before .loop .i) (c .loop-test .taken))
 
 mul-t-2 : tie.Need-mul-t-2 Inv-loop μ-loop
 mul-t-2 c =
-    let i = c .before .loop .i in
-    let k = c .before .before .args .k in
-    let p = c .before .before .pre in
-    let n = c .before .before .args .n in
-    omega (arith, one-more i k (c .before .loop .inv .1), weight-mono (i + 1) n k (p .k-low) (omega arith))
+    omega (arith, product-fits (c .before .before .pre) (c .before .loop .i) (c .loop-test .taken) (c .before .loop .inv .1))
 
 loop-less : tie.Need-loop-less Inv-loop μ-loop
 loop-less c = search needs

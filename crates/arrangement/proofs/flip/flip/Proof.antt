@@ -8,11 +8,11 @@ use Rattle.arrangement.proofs.flip.flip.Tie as tie
 turn-requires : tie.Need-turn-requires
 turn-requires c κs = search needs
 
-write-back-requires : tie.Need-write-back-requires
-write-back-requires c κs = search needs
+store-requires : tie.Need-store-requires
+store-requires c κs = search needs
 
-write-back-requires-2 : tie.Need-write-back-requires-2
-write-back-requires-2 c κs = search needs
+store-requires-2 : tie.Need-store-requires-2
+store-requires-2 c κs = search needs
 
 same-length : tie.Need-same-length
 same-length c = search needs
@@ -26,8 +26,8 @@ returns c =
     let turned = first .before .before .before .before in
     let start = turned .before .before .before .before .before in
     let copies = turned .turn .ensures in (
-      written-back _ _ _ _ (copies .0) (first .write-back .ensures) (start .pre .modules) (module-behind _ _),
-      written-back _ _ _ _ (copies .1) (c .before .before .write-back2 .ensures) (start .pre .settings) (setting-behind _ _ _),
+      written-back _ _ _ _ (copies .0) (first .store .ensures) (start .pre .modules) (module-behind _ _),
+      written-back _ _ _ _ (copies .1) (c .before .before .store2 .ensures) (start .pre .settings) (setting-behind _ _ _),
     )
 
 pub flip-spec : {M : Type 1} → statement M
@@ -35,8 +35,8 @@ flip-spec =
     tie.close
     (tie.spec
     turn-requires
-    write-back-requires
-    write-back-requires-2
+    store-requires
+    store-requires-2
     same-length
     same-length-2
     returns)

@@ -1,19 +1,19 @@
--- `arrangement::flip::write_back` meets its contract. The loop's invariant: the first i slots are the copy's, and the rest are
--- as they were. The measure is j less i. Assumes nothing.
+-- `arrangement::copy::store` meets its contract. The loop's invariant: the first i slots are the copy's, and the rest are
+-- as they were. The measure is n less i. Assumes nothing.
 use Prim.Native.Nat.{_-_, _≤_}
 use mathlib.Core.Path.{_≡_, refl, _∙_}
 use native.Mathlib.Omega.{arith}
 use Rattle.rows.specs.Row.{at, front}
 use Rattle.rows.proofs.Rows as rows
 use borrow.Author.Needs.{needs}
-use Rattle.arrangement.proofs.flip.write_back.Statement.{statement}
-use Rattle.arrangement.proofs.flip.write_back.Tie as tie
+use Rattle.arrangement.proofs.copy.store.Statement.{statement}
+use Rattle.arrangement.proofs.copy.store.Tie as tie
 
 abbrev Inv-loop : tie.InvT-loop
-Inv-loop j slots₀ copy i₀ slots i = (i ≤ j) × (slots ≡ front (at copy) i slots₀)
+Inv-loop n slots₀ copy i₀ slots i = (i ≤ n) × (slots ≡ front (at copy) i slots₀)
 
 abbrev μ-loop : tie.MeasureT-loop
-μ-loop j slots₀ copy i₀ slots i = j - i
+μ-loop n slots₀ copy i₀ slots i = n - i
 
 loop-holds : tie.Need-loop-holds Inv-loop μ-loop
 loop-holds c = (search needs, rows.begun _ _)
@@ -39,10 +39,10 @@ same-length c = rows.same-length _ _ _ (c .before .loop .inv .1) (omega arith)
 
 returns : tie.Need-returns Inv-loop μ-loop
 returns c =
-    let e : c .before .loop .i ≡ c .before .before .args .j = omega arith in c .before .loop .inv .1 ∙ rw e
+    let e : c .before .loop .i ≡ c .before .before .args .n = omega arith in c .before .loop .inv .1 ∙ rw e
 
-pub write-back-spec : {M : Type 1} → statement M
-write-back-spec =
+pub store-spec : {M : Type 1} → statement M
+store-spec =
     tie.close
     (tie.spec
     Inv-loop

@@ -1,0 +1,33 @@
+// Rows of 20 bytes by value: loaded from a lent row, and stored into one.
+use sizes::MOST_SLOTS;
+ghost use mathlib.Core.Path.{_≡_};
+ghost use Prim.Native.Nat.{_≤_};
+ghost use lib.ListN.{length, replicate};
+ghost use Rattle.rows.specs.Row.{at, front};
+ghost use Rattle.sizes.specs.Sizes.{mostSlots};
+
+// The bytes of a row, and 0 behind them.
+pub fn load(slots: &[u8]) -> [u8; MOST_SLOTS]
+    requires { ⌜ length (now slots) ≤ mostSlots ⌝ }
+    ensures { λ r. ⌜ r ≡ front (at (now (slots .entry))) (length (now (slots .entry))) (replicate mostSlots 0) ⌝ }
+{
+    let mut copy = [0u8; MOST_SLOTS];
+    let mut i = 0;
+    while i < slots.len() {
+        copy[i] = slots[i];
+        i += 1;
+    }
+    copy
+}
+
+// Writes the first n bytes of a copy over those of a row.
+pub fn store(n: usize, copy: [u8; MOST_SLOTS], slots: &mut [u8])
+    requires { ⌜ (n ≤ mostSlots) × (n ≤ length (now slots)) ⌝ }
+    ensures { λ _. ⌜ now (slots .exit) ≡ front (at copy) n (now (slots .entry)) ⌝ }
+{
+    let mut i = 0;
+    while i < n {
+        slots[i] = copy[i];
+        i += 1;
+    }
+}

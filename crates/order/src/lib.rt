@@ -1,0 +1,12 @@
+// The order of the arrangements: the number of an arrangement (`rank`) and the arrangement of a
+// number (`unrank`). Both call themselves on one slot fewer.
+pub mod rank;
+pub mod unrank;
+
+use sizes::MOST_SLOTS;
+
+// Modules and settings by slot, and 0 behind those in use.
+pub struct Slots {
+    pub modules: [u8; MOST_SLOTS],
+    pub settings: [u8; MOST_SLOTS],
+}

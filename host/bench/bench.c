@@ -1,0 +1,157 @@
+/*
+ * Times the library's calls beside plain C of the same job, the reference of the tests, in one run and on
+ * the same inputs. An entry of `entries` is a call.
+ */
+#define _POSIX_C_SOURCE 199309L /* clock_gettime */
+
+#include "calls.h"
+#include "reference.h"
+
+#include <stdio.h>
+#include <stdlib.h>
+#include <string.h>
+#include <time.h>
+
+enum { INPUTS = 4096, ROUNDS = 15, ROOM = 24 };
+
+/* The plain C has the checks of the library's call; `unchecked` is the same without, where there is one. */
+struct entry {
+    const struct call *call;
+    struct function unchecked;
+};
+
+static const struct entry entries[] = {
+    {.call = &round_call},
+    {.call = &total_call},
+    {.call = &check_call},
+    {.call = &flip_call},
+    {.call = &rank_call},
+    {.call = &value_call, .unchecked.reading = unchecked_rank_value},
+    {.call = &unrank_call, .unchecked.writing = unchecked_unrank},
+};
+
+static const struct {
+    size_t n, k;
+} sizes[] = {{20, 1}, {16, 2}, {11, 8}};
+
+/* What a call is asked INPUTS times, and has written. */
+struct batch {
+    size_t n, k, lengths[ROWS];
+    struct input {
+        uint64_t argument;
+        uint8_t rows[ROWS][ROOM];
+    } inputs[INPUTS];
+};
+
+static void prepare(struct batch *batch, const struct call *call, size_t n, size_t k)
+{
+    batch->n = n;
+    batch->k = k;
+    for (struct input *in = batch->inputs; in < batch->inputs + INPUTS; in++) {
+        const struct asked asked = call->fair(n, k);
+        in->argument = asked.argument;
+        for (size_t i = 0; i < ROWS; i++) {
+            batch->lengths[i] = asked.lent[i].length;
+            memcpy(in->rows[i], asked.lent[i].bytes, ROOM);
+        }
+    }
+}
+
+/* Makes the call on each input, and answers the sum of the answers. */
+static uint64_t call_all(const struct function *function, struct batch *batch)
+{
+    const size_t n = batch->n, k = batch->k, first = batch->lengths[0], second = batch->lengths[1];
+    struct input *const end = batch->inputs + INPUTS;
+    uint64_t sum = 0;
+    if (function->of_sizes != NULL)
+        for (struct input *in = batch->inputs; in < end; in++)
+            sum += function->of_sizes(n, k);
+    else if (function->reading != NULL)
+        for (struct input *in = batch->inputs; in < end; in++)
+            sum += function->reading(n, k, in->rows[0], first, in->rows[1], second);
+    else
+        for (struct input *in = batch->inputs; in < end; in++)
+            sum += function->writing(n, k, in->argument, in->rows[0], first, in->rows[1], second);
+    return sum;
+}
+
+static double now_in_ns(void)
+{
+    struct timespec now;
+    clock_gettime(CLOCK_MONOTONIC, &now);
+    return (double)now.tv_sec * 1e9 + (double)now.tv_nsec;
+}
+
+/* Every byte counts, by its place. */
+static uint64_t digest_of(const struct batch *batch, uint64_t digest)
+{
+    for (const struct input *in = batch->inputs; in < batch->inputs + INPUTS; in++)
+        for (size_t i = 0; i < ROWS; i++)
+            for (size_t place = 0; place < ROOM; place++)
+                digest = digest * 0x100000001b3 + in->rows[i][place];
+    return digest;
+}
+
+/* The ns of one call; `digest` is of the answers and of what was written. */
+static double timed(const struct function *function, const struct batch *prepared, uint64_t *digest)
+{
+    static struct batch batch;
+    static volatile uint64_t sink;
+    batch = *prepared;
+    const double began = now_in_ns();
+    sink = call_all(function, &batch);
+    const double took = now_in_ns() - began;
+    *digest = digest_of(&batch, sink);
+    return took / INPUTS;
+}
+
+enum { LIBRARY, PLAIN, UNCHECKED, COLUMNS };
+
+static bool is_set(const struct function *function)
+{
+    return function->of_sizes != NULL || function->reading != NULL || function->writing != NULL;
+}
+
+/* The best time of each column; ends the program where two columns differ in what they answer or write. */
+static void time_columns(const struct function *const columns[COLUMNS], const struct batch *prepared,
+                         double best[COLUMNS])
+{
+    uint64_t digests[COLUMNS];
+    for (int round = 0; round < ROUNDS; round++)
+        for (size_t i = 0; i < COLUMNS && is_set(columns[i]); i++) {
+            const double took = timed(columns[i], prepared, &digests[i]);
+            best[i] = round == 0 || took < best[i] ? took : best[i];
+            if (digests[i] != digests[LIBRARY]) {
+                printf("the library and the plain C differ\n");
+                exit(1);
+            }
+        }
+}
+
+static void time_entry(const struct entry *entry, size_t n, size_t k)
+{
+    static struct batch prepared;
+    const struct function *const columns[COLUMNS] = {&entry->call->library, &entry->call->reference,
+                                                     &entry->unchecked};
+    double best[COLUMNS];
+    prepare(&prepared, entry->call, n, k);
+    time_columns(columns, &prepared, best);
+    printf("%-12s %3zu %3zu %9.1f %9.1f %19.2f", entry->call->name, n, k, best[LIBRARY], best[PLAIN],
+           best[LIBRARY] / best[PLAIN]);
+    if (is_set(&entry->unchecked))
+        printf(" %11.1f", best[UNCHECKED]);
+    printf("\n");
+}
+
+int main(void)
+{
+    printf("library  %s\n", LIBRARY_NAME);
+    printf("plain C  the reference of the tests, by %s\n", PLAIN_COMPILER);
+    printf("ns per call, the best of %d rounds over %d random inputs\n\n", ROUNDS, INPUTS);
+    printf("%-12s %3s %3s %9s %9s %19s %11s\n", "call", "n", "k", "library", "plain C", "library / plain C",
+           "unchecked C");
+    for (size_t i = 0; i < COUNT_OF(entries); i++)
+        for (size_t j = 0; j < COUNT_OF(sizes); j++)
+            time_entry(&entries[i], sizes[j].n, sizes[j].k);
+    return 0;
+}

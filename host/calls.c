@@ -1,0 +1,50 @@
+/* The calls: see calls.h. */
+#include "calls.h"
+
+#include "arrangements.h"
+#include "limpet.h"
+#include "reference.h"
+
+const struct call round_call = {.name = "round",
+                                .refusals = {1, 2, 3},
+                                .library.of_sizes = limpet_round,
+                                .reference.of_sizes = reference_round,
+                                .fair = home};
+
+const struct call total_call = {.name = "round total",
+                                .refusals = {1, 2, 3},
+                                .library.of_sizes = limpet_round_total,
+                                .reference.of_sizes = reference_round_total,
+                                .plain = true,
+                                .fair = home};
+
+const struct call check_call = {.name = "check",
+                                .refusals = {1, 2, 3, 4, 5, 6, 7},
+                                .library.reading = limpet_check,
+                                .reference.reading = reference_check,
+                                .fair = random_arrangement};
+
+const struct call flip_call = {.name = "flip",
+                               .refusals = {1, 2, 3, 4, 5, 6, 7, 9},
+                               .library.writing = limpet_flip,
+                               .reference.writing = reference_flip,
+                               .fair = random_arrangement};
+
+const struct call rank_call = {.name = "rank",
+                               .refusals = {1, 2, 3, 4, 5, 6, 7},
+                               .library.reading = limpet_rank,
+                               .reference.reading = reference_rank,
+                               .fair = random_arrangement};
+
+const struct call value_call = {.name = "rank value",
+                                .refusals = {1, 2, 3, 4, 5, 6, 7},
+                                .library.reading = limpet_rank_value,
+                                .reference.reading = reference_rank_value,
+                                .plain = true,
+                                .fair = random_arrangement};
+
+const struct call unrank_call = {.name = "unrank",
+                                 .refusals = {1, 2, 3, 4, 8},
+                                 .library.writing = limpet_unrank,
+                                 .reference.writing = reference_unrank,
+                                 .fair = random_rank};

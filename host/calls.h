@@ -1,0 +1,9 @@
+/* The calls of limpet.h, each beside its reference, as tests and benchmark ask them. */
+#ifndef CALLS_H
+#define CALLS_H
+
+#include "test.h"
+
+extern const struct call round_call, total_call, check_call, flip_call, rank_call, value_call, unrank_call;
+
+#endif

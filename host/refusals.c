@@ -1,0 +1,172 @@
+/* The tests of refusals that several calls have: see refusals.h. */
+#include "refusals.h"
+
+#include "arrangements.h"
+#include "limpet.h"
+#include "reference.h"
+
+enum { LENGTHS = 6 };
+
+/* Of these lengths only the first, n, is right. */
+static size_t length_at(size_t which, size_t n)
+{
+    const size_t all[LENGTHS] = {n, 0, n - 1, n + 1, 256 + n, ROW_MOST};
+    return all[which];
+}
+
+/*
+ * Has the call refused by `number`, for 5, 6 and 7 at `slot`; 6 needs a slot behind the first, and 3 a
+ * size that is too large from the start. Of several faults the higher numbers are made first.
+ */
+static void spoil(struct asked *asked, unsigned number, size_t slot)
+{
+    const uint64_t total = reference_round_total(asked->n, asked->k);
+    uint8_t *modules = asked->lent[MODULES].bytes, *settings = asked->lent[SETTINGS].bytes;
+    switch (number) {
+    case 1: asked->n = beyond(draw(BEYOND), asked->n, LIMPET_MOST_SLOTS); break;
+    case 2: asked->k = beyond(draw(BEYOND), asked->k, LIMPET_MOST_SETTINGS); break;
+    case 4: asked->lent[draw(ROWS)].length = length_at(1 + draw(LENGTHS - 1), asked->n); break;
+    case 5: modules[slot - 1] = (uint8_t)(draw(4) == 0 ? 0 : 255 - draw(255 - asked->n)); break;
+    case 6: modules[slot - 1] = modules[draw(slot - 1)]; break;
+    case 7: settings[slot - 1] = (uint8_t)(255 - draw(256 - asked->k)); break;
+    case 8: asked->argument = rank_beyond(draw(RANKS_BEYOND), asked->argument, total); break;
+    case 9: asked->argument = beyond(draw(BEYOND), asked->argument, asked->n); break;
+    default: break;
+    }
+}
+
+static size_t first_slot(unsigned number)
+{
+    return number == 6 ? 2 : 1;
+}
+
+static void sizes(const struct call *call)
+{
+    for (size_t n = 1; n <= LIMPET_MOST_SLOTS; n++)
+        for (size_t k = 1; k <= LIMPET_MOST_SETTINGS; k++)
+            for (size_t which = 0; which < BEYOND; which++) {
+                struct asked asked = call->fair(n, k), fair = asked;
+                ask(call, &fair);
+                asked.k = beyond(which, k, LIMPET_MOST_SETTINGS);
+                expect_refused(call, &asked, 2, 0);
+                asked.n = beyond(which, n, LIMPET_MOST_SLOTS);
+                expect_refused(call, &asked, 1, 0);
+                asked.k = k;
+                expect_refused(call, &asked, 1, 0);
+            }
+}
+
+static void lengths(const struct call *call, size_t n, size_t k)
+{
+    for (size_t first = 0; first < LENGTHS; first++)
+        for (size_t second = first == 0 ? 1 : 0; second < LENGTHS; second++) {
+            struct asked asked = call->fair(n, k);
+            asked.lent[MODULES].length = length_at(first, n);
+            asked.lent[SETTINGS].length = length_at(second, n);
+            expect_refused(call, &asked, 4, 0);
+        }
+}
+
+static void two_faults_at_all_slots(const struct call *call, unsigned low, unsigned high)
+{
+    const bool too_large = low == 3 || high == 3;
+    const size_t n = too_large ? 17 : 7, k = too_large ? 2 : 3;
+    for (size_t low_slot = first_slot(low); low_slot <= n; low_slot++)
+        for (size_t high_slot = first_slot(high); high_slot <= n; high_slot++) {
+            struct asked asked = call->fair(n, k);
+            spoil(&asked, high, high_slot);
+            spoil(&asked, low, low_slot);
+            const size_t bad_slot = low == high && high_slot < low_slot ? high_slot : low_slot;
+            expect_refused(call, &asked, low, low >= 5 && low <= 7 ? bad_slot : 0);
+        }
+}
+
+static void two_faults(const struct call *call)
+{
+    for (const unsigned *low = call->refusals; *low != 0; low++)
+        for (const unsigned *high = low; *high != 0; high++)
+            two_faults_at_all_slots(call, *low, *high);
+}
+
+static void random_inputs(const struct call *call)
+{
+    for (int times = 0; times < 50000; times++) {
+        const size_t n = 1 + draw(LIMPET_MOST_SLOTS), k = 1 + draw(LIMPET_MOST_SETTINGS);
+        struct asked asked = call->fair(n, k);
+        for (size_t i = REFUSALS_MOST; i-- > 0;) {
+            const size_t slot = 1 + draw(n);
+            if (draw(4) == 0 && slot >= first_slot(call->refusals[i]))
+                spoil(&asked, call->refusals[i], slot);
+        }
+        ask(call, &asked);
+    }
+}
+
+static void bad_bytes(const struct call *call, size_t n, size_t k)
+{
+    const struct asked good = call->fair(n, k);
+    for (size_t slot = 1; slot <= n; slot++)
+        for (unsigned value = 0; value <= 255; value++) {
+            struct asked module = good, setting = good;
+            module.lent[MODULES].bytes[slot - 1] = (uint8_t)value;
+            setting.lent[SETTINGS].bytes[slot - 1] = (uint8_t)value;
+            if (value == 0 || value > n)
+                expect_refused(call, &module, 5, slot);
+            if (value >= k)
+                expect_refused(call, &setting, 7, slot);
+        }
+}
+
+static void repeats(const struct call *call, size_t n, size_t k)
+{
+    for (size_t slot = 2; slot <= n; slot++)
+        for (size_t lower = 1; lower < slot; lower++) {
+            struct asked asked = call->fair(n, k);
+            asked.lent[MODULES].bytes[slot - 1] = asked.lent[MODULES].bytes[lower - 1];
+            expect_refused(call, &asked, 6, slot);
+        }
+}
+
+static uint8_t take_digit(unsigned *code, unsigned base)
+{
+    const unsigned digit = *code % base;
+    *code /= base;
+    return (uint8_t)digit;
+}
+
+static void small_inputs(const struct call *call)
+{
+    const unsigned inputs = 5 * (6 * 6 * 6) * (4 * 4 * 4);
+    for (unsigned input = 0; input < inputs; input++) {
+        struct asked asked = written(2, "1:0 2:0 3:0");
+        unsigned code = input;
+        asked.argument = take_digit(&code, 5);
+        for (size_t i = 0; i < asked.n; i++) {
+            asked.lent[MODULES].bytes[i] = take_digit(&code, 6);
+            asked.lent[SETTINGS].bytes[i] = take_digit(&code, 4);
+        }
+        ask(call, &asked);
+    }
+}
+
+void refusal_tests(const struct call *call)
+{
+    static const struct test tests[] = {
+        {"good inputs of every size; 1, 2 and 3 for bad sizes", .once = sizes},
+        {"4 for either buffer shorter, longer or empty", .at_every_size = lengths},
+        {"of two faults the lower number, of one number the lower slot", .once = two_faults},
+        {"good and damaged inputs at random", .once = random_inputs},
+    };
+    run_tests(call, tests, COUNT_OF(tests));
+}
+
+void arrangement_tests(const struct call *call)
+{
+    static const struct test tests[] = {
+        {"5 and 7 for every module and setting out of range, at every slot", .at_every_size = bad_bytes},
+        {"6 for a module that stands twice, at every two slots", .at_every_size = repeats},
+        {"n = 3, k = 2 with all modules of 0..5 and settings of 0..3", .once = small_inputs},
+    };
+    refusal_tests(call);
+    run_tests(call, tests, COUNT_OF(tests));
+}
