@@ -1,14 +1,10 @@
 -- The laws of a flip. The slot from which a module comes is linear in the slot to which it goes, and the same flip brings it
 -- back: so a flip moves each module once, and what was valid stays valid. Assumes nothing.
 use mathlib.Core.Path.{_≡_, sym, _∙_, ap}
-use mathlib.Core.List.{List}
 use Prim.Native.Nat.{ℕ, suc, _+_, _-_, _%_, _<_, _≤_}
 use native.Mathlib.Nat.{mod-lt, mod-eq-of-lt, mod-self}
 use native.Mathlib.Omega.{arith}
-use lib.ListN.{length}
-use Rattle.rows.specs.Row.{at, row, front}
 use Rattle.rows.proofs.Cases.{by-lt, if-lt, if-ge}
-use Rattle.rows.proofs.Rows.{at-front, front-ext, front-row}
 use Rattle.arrangement.specs.Arrangement.{Cell, Valid}
 use Rattle.arrangement.specs.Flip.{raised, source, flippedModules, flippedSettings}
 
@@ -79,12 +75,3 @@ flipped-valid {n} {k} {j} {M} {S} k-low h v = record {
   };
   once = λ a b la lb e. source-once j a b (v .once (source j a) (source j b) (source-lt j n a h la) (source-lt j n b h lb) e);
 }
-
--- ---- a turned copy, written back
-
--- a copy whose first j slots are f's, written over those of a list that f leaves alone behind them
-pub written-back : (f : ℕ → ℕ) (j : ℕ) (zs xs : List ℕ) {copy ys : List ℕ} → copy ≡ front f j zs → ys ≡ front (at copy) j xs →
-    j ≤ length xs → ((i : ℕ) → j ≤ i → f i ≡ at xs i) → ys ≡ row f (length xs)
-written-back f j zs xs copy-is ys-is h behind =
-    rw (ys-is, copy-is)
-    (front-ext (at (front f j zs)) f j xs (λ i l. at-front f j zs i l) ∙ front-row f j xs h (λ i l m. behind i l))

@@ -76,7 +76,7 @@ pub record Accepted (n k : ℕ) (ms ss : List ℕ) : Type 0 where
   pub valid-is : Valid n k (at ms) (at ss)
 
 -- a buffer that is not refused has its length
-has-length : (n : ℕ) (xs : List ℕ) → lengthVerdict n xs ≡ Fine → length xs ≡ n
+pub has-length : (n : ℕ) (xs : List ℕ) → lengthVerdict n xs ≡ Fine → length xs ≡ n
 unfolding lengthVerdict
 has-length n xs e = eqb-true (length xs) n (not-false _ (no-fault 4 _ e))
 

@@ -6,6 +6,8 @@ use Rattle.sizes.specs.Refusal.{unlessRefused}
 use Rattle.sizes.specs.Sizes.{weight, sizesVerdict}
 use Rattle.arrangement.specs.Check.{lentVerdict}
 use Rattle.arrangement.specs.Flip.{flippedModules, flippedSettings, flipVerdict}
+use Rattle.order.specs.Check.{lentRankVerdict}
+use Rattle.order.specs.Rank.{rank, unrankModules, unrankSettings}
 use Rattle.limpet.specs.Answer.{answerOf, packed, Outcome, outcome}
 
 -- limpet_round: the check of n and k
@@ -16,7 +18,7 @@ roundReturns n k = packed (answerOf (sizesVerdict n k) 0)
 unfoldable pub totalReturns : ℕ → ℕ → ℕ
 totalReturns n k = unlessRefused (sizesVerdict n k) (weight n k)
 
--- limpet_check: the check of an arrangement
+-- limpet_check, and limpet_rank: the check of an arrangement
 unfoldable pub checkReturns : ℕ → ℕ → List ℕ → List ℕ → ℕ
 checkReturns n k ms ss = packed (answerOf (lentVerdict n k ms ss) 0)
 
@@ -24,3 +26,12 @@ checkReturns n k ms ss = packed (answerOf (lentVerdict n k ms ss) 0)
 unfoldable pub flipLeaves : ℕ → ℕ → ℕ → List ℕ → List ℕ → Outcome
 flipLeaves n k j ms ss =
     outcome (flipVerdict n k j ms ss) 0 ms ss (row (flippedModules j (at ms)) n) (row (flippedSettings k j (at ss)) n)
+
+-- limpet_rank_value: the rank of an arrangement
+unfoldable pub rankValueReturns : ℕ → ℕ → List ℕ → List ℕ → ℕ
+rankValueReturns n k ms ss = unlessRefused (lentVerdict n k ms ss) (rank n k (at ms) (at ss))
+
+-- limpet_unrank: the arrangement of a rank
+unfoldable pub unrankLeaves : ℕ → ℕ → ℕ → List ℕ → List ℕ → Outcome
+unrankLeaves n k r ms ss =
+    outcome (lentRankVerdict n k r n ms n ss) 0 ms ss (row (unrankModules n k r) n) (row (unrankSettings n k r) n)

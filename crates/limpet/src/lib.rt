@@ -4,7 +4,7 @@ mod answer;
 
 ghost use mathlib.Core.Path.{_≡_};
 ghost use Rattle.limpet.specs.Answer.{Returns, Leaves};
-ghost use Rattle.limpet.specs.Calls.{roundReturns, totalReturns, checkReturns, flipLeaves};
+ghost use Rattle.limpet.specs.Calls.{roundReturns, totalReturns, checkReturns, flipLeaves, rankValueReturns, unrankLeaves};
 
 #[no_mangle]
 pub extern "C" fn limpet_round(n: usize, k: usize) -> u64
@@ -45,5 +45,40 @@ pub extern "C" fn limpet_flip(
         return answer::pack(verdict, 0);
     }
     arrangement::flip::flip(k, j, modules, settings);
+    answer::pack(verdict, 0)
+}
+
+#[no_mangle]
+pub extern "C" fn limpet_rank(n: usize, k: usize, modules: &[u8], settings: &[u8]) -> u64
+    ensures { λ r. ⌜ Returns (checkReturns n k (now (modules .entry)) (now (settings .entry))) r ⌝ }
+{
+    limpet_check(n, k, modules, settings)
+}
+
+#[no_mangle]
+pub extern "C" fn limpet_rank_value(n: usize, k: usize, modules: &[u8], settings: &[u8]) -> u64
+    ensures { λ r. ⌜ Returns (rankValueReturns n k (now (modules .entry)) (now (settings .entry))) r ⌝ }
+{
+    if arrangement::check::judge(n, k, modules, settings).refuses() {
+        return 0;
+    }
+    order::rank::rank(n, k, modules, settings)
+}
+
+#[no_mangle]
+pub extern "C" fn limpet_unrank(
+    n: usize,
+    k: usize,
+    rank: u64,
+    modules: &mut [u8],
+    settings: &mut [u8],
+) -> u64
+    ensures { λ r. ⌜ Leaves (unrankLeaves n k rank (now (modules .entry)) (now (settings .entry))) r (now (modules .exit)) (now (settings .exit)) ⌝ }
+{
+    let verdict = order::check::judge(n, k, rank, n, modules, n, settings);
+    if verdict.refuses() {
+        return answer::pack(verdict, 0);
+    }
+    order::unrank::write(n, k, rank, modules, settings);
     answer::pack(verdict, 0)
 }

@@ -44,3 +44,10 @@ pub record UnrankAsked (n k r : ℕ) (ws : List ℕ) : Type 0 where
   pub rank : r < weight n k
   pub enough : n ≤ length ws
   pub weights : (m : ℕ) → m < n → at ws m ≡ weight m k
+
+-- a rank of n slots, and two rows of n places to write its arrangement in
+pub record WriteAsked (n k r : ℕ) (ms ss : List ℕ) : Type 0 where
+  pub sizes : Permitted n k
+  pub rank : r < weight n k
+  pub modules : length ms ≡ n
+  pub settings : length ss ≡ n

@@ -1,3 +1,4 @@
 pub mod Rank
 pub mod Digits
 pub mod Asked
+pub mod Check

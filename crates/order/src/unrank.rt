@@ -1,14 +1,15 @@
 // The arrangement of a rank: the last digit is taken off, and the slots of what is left are those
 // before the last, with the renaming undone.
 use crate::Slots;
+use arrangement::copy;
 use sizes::MOST_SLOTS;
 ghost use mathlib.Core.Path.{_≡_};
 ghost use Prim.Native.Nat.{_+_, _/_, _%_, _≤_, _<_};
 ghost use lib.ListN.{replicate};
-ghost use Rattle.rows.specs.Row.{at, front};
+ghost use Rattle.rows.specs.Row.{at, row, front};
 ghost use Rattle.sizes.specs.Sizes.{weight, Permitted, mostSlots, mostSettings};
 ghost use Rattle.order.specs.Rank.{raisedBy, restoredModule, restoredSetting, restoredModules, restoredSettings, moduleOf, settingOf, unrankModules, unrankSettings};
-ghost use Rattle.order.specs.Asked.{LastAsked, RestoreAsked, UnrankAsked};
+ghost use Rattle.order.specs.Asked.{LastAsked, RestoreAsked, UnrankAsked, WriteAsked};
 
 // The weights of 0 to n - 1 places.
 fn weights(n: usize, k: usize) -> [u64; MOST_SLOTS]
@@ -166,4 +167,17 @@ pub fn unrank(n: usize, k: usize, rank: u64) -> Slots
 {
     let all = weights(n, k);
     unrank_slots(n, k, rank, &all)
+}
+
+// The same, written into two rows of n bytes.
+pub fn write(n: usize, k: usize, rank: u64, modules: &mut [u8], settings: &mut [u8])
+    requires { ⌜ WriteAsked n k rank (now modules) (now settings) ⌝ }
+    ensures { λ _. ⌜ now (modules .exit) ≡ row (unrankModules n k rank) n ⌝ }
+    ensures { λ _. ⌜ now (settings .exit) ≡ row (unrankSettings n k rank) n ⌝ }
+{
+    let slots = unrank(n, k, rank);
+    let new_modules = slots.modules;
+    let new_settings = slots.settings;
+    copy::store(n, new_modules, modules);
+    copy::store(n, new_settings, settings);
 }

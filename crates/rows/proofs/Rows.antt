@@ -92,3 +92,14 @@ same-length f i xs e h = rw e (length-front f i xs h)
 
 pub read : (f : ℕ → ℕ) (n : ℕ) (xs : List ℕ) (i : ℕ) {ys : List ℕ} → ys ≡ front f n xs → i < n → at ys i ≡ f i
 read f n xs i e h = rw e (at-front f n xs i h)
+
+-- a copy whose first n places are f's, written over those of a list that f leaves alone behind them
+pub written-back : (f : ℕ → ℕ) (n : ℕ) (zs xs : List ℕ) {copy ys : List ℕ} → copy ≡ front f n zs → ys ≡ front (at copy) n xs →
+    n ≤ length xs → ((i : ℕ) → n ≤ i → i < length xs → f i ≡ at xs i) → ys ≡ row f (length xs)
+written-back f n zs xs copy-is ys-is h behind =
+    rw (ys-is, copy-is) (front-ext (at (front f n zs)) f n xs (λ i l. at-front f n zs i l) ∙ front-row f n xs h behind)
+
+-- and over all of a list of n places
+pub written-over : (f : ℕ → ℕ) (n : ℕ) (zs xs : List ℕ) {copy ys : List ℕ} → copy ≡ front f n zs → ys ≡ front (at copy) n xs → length xs ≡ n → ys ≡ row f n
+written-over f n zs xs copy-is ys-is same =
+    written-back f n zs xs copy-is ys-is (omega arith) (λ i l m. absurd (omega arith)) ∙ ap (row f) same

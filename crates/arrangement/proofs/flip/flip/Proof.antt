@@ -1,7 +1,8 @@
 -- `arrangement::flip::flip` meets its contract: the turned copies of the first j slots are written back, and behind them a flip
 -- leaves every slot. Assumes nothing.
 use borrow.Author.Needs.{needs}
-use Rattle.arrangement.proofs.Flips.{module-behind, setting-behind, written-back}
+use Rattle.rows.proofs.Rows.{written-back}
+use Rattle.arrangement.proofs.Flips.{module-behind, setting-behind}
 use Rattle.arrangement.proofs.flip.flip.Statement.{statement}
 use Rattle.arrangement.proofs.flip.flip.Tie as tie
 
@@ -26,8 +27,8 @@ returns c =
     let turned = first .before .before .before .before in
     let start = turned .before .before .before .before .before in
     let copies = turned .turn .ensures in (
-      written-back _ _ _ _ (copies .0) (first .store .ensures) (start .pre .modules) (module-behind _ _),
-      written-back _ _ _ _ (copies .1) (c .before .before .store2 .ensures) (start .pre .settings) (setting-behind _ _ _),
+      written-back _ _ _ _ (copies .0) (first .store .ensures) (start .pre .modules) (λ i h l. module-behind _ _ i h),
+      written-back _ _ _ _ (copies .1) (c .before .before .store2 .ensures) (start .pre .settings) (λ i h l. setting-behind _ _ _ i h),
     )
 
 pub flip-spec : {M : Type 1} → statement M
