@@ -3,8 +3,8 @@
  *
  * There are n slots and n modules numbered 1 to n, each with a setting 0 to k-1. An arrangement is lent
  * as two buffers of n bytes: modules by slot, settings by slot; slot 1, the front, is the first byte. A
- * round has T = k^n * n! arrangements, numbered by their ranks, 0 to T-1. Home, 1:0 2:0 .. n:0, has rank 0;
- * one flip leads from each arrangement to that of the next rank, and from the last back to home.
+ * round has T = k^n * n! arrangements, and each has a rank, 0 to T-1. Rank 0 is home: module i in slot i,
+ * every setting 0. One flip leads from each rank to the next, and from T-1 to home.
  *
  * The caller's duty, which no check can see: a buffer is lent as a pointer and then its length, has the
  * length passed with it, and overlaps no other buffer lent to the same call. A pointer may be NULL only

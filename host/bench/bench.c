@@ -1,6 +1,6 @@
 /*
  * Times the library's calls beside plain C of the same job, the reference of the tests, in one run and on
- * the same inputs. An entry of `entries` is a call.
+ * the same inputs. A call is timed by its entry in `entries`.
  */
 #define _POSIX_C_SOURCE 199309L /* clock_gettime */
 
@@ -12,7 +12,7 @@
 #include <string.h>
 #include <time.h>
 
-enum { INPUTS = 4096, ROUNDS = 15, ROOM = 24 };
+enum { INPUTS = 4096, ROUNDS = 31, ROOM = 24 };
 
 /* The plain C has the checks of the library's call; `unchecked` is the same without, where there is one. */
 struct entry {
@@ -146,7 +146,7 @@ static void time_entry(const struct entry *entry, size_t n, size_t k)
 int main(void)
 {
     printf("library  %s\n", LIBRARY_NAME);
-    printf("plain C  the reference of the tests, by %s\n", PLAIN_COMPILER);
+    printf("plain C  the reference of the tests, by %s (%s)\n", PLAIN_COMPILER, __VERSION__);
     printf("ns per call, the best of %d rounds over %d random inputs\n\n", ROUNDS, INPUTS);
     printf("%-12s %3s %3s %9s %9s %19s %11s\n", "call", "n", "k", "library", "plain C", "library / plain C",
            "unchecked C");
