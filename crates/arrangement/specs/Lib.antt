@@ -1,3 +1,4 @@
 pub mod Arrangement
 pub mod Check
+pub mod Copy
 pub mod Flip

@@ -1,13 +1,14 @@
 // One flip: the first j slots turned round, and their settings raised by one.
 use crate::check;
 use crate::copy;
-use sizes::MOST_SLOTS;
+use crate::copy::WIDE;
 use sizes::Verdict;
 ghost use mathlib.Core.Path.{_≡_};
 ghost use Prim.Native.Nat.{_≤_, _<_};
-ghost use lib.ListN.{length, replicate};
+ghost use lib.ListN.{length};
 ghost use Rattle.rows.specs.Row.{at, row, front};
 ghost use Rattle.sizes.specs.Sizes.{mostSlots, mostSettings};
+ghost use Rattle.arrangement.specs.Copy.{blank};
 ghost use Rattle.arrangement.specs.Flip.{raised, flippedModules, flippedSettings, flipVerdict, Flippable};
 
 // The check of any n and k, of an arrangement in any two lent buffers and of any length of a flip.
@@ -38,17 +39,17 @@ fn raise(k: usize, setting: u8) -> u8
 
 // A turned copy of the first j slots, and 0 behind them.
 struct Turned {
-    modules: [u8; MOST_SLOTS],
-    settings: [u8; MOST_SLOTS],
+    modules: [u8; WIDE],
+    settings: [u8; WIDE],
 }
 
 fn turn(k: usize, j: usize, modules: &[u8], settings: &[u8]) -> Turned
     requires { ⌜ Flippable k j (now modules) (now settings) ⌝ }
-    ensures { λ r. ⌜ r .modules ≡ front (flippedModules j (at (now (modules .entry)))) j (replicate mostSlots 0) ⌝ }
-    ensures { λ r. ⌜ r .settings ≡ front (flippedSettings k j (at (now (settings .entry)))) j (replicate mostSlots 0) ⌝ }
+    ensures { λ r. ⌜ r .modules ≡ front (flippedModules j (at (now (modules .entry)))) j blank ⌝ }
+    ensures { λ r. ⌜ r .settings ≡ front (flippedSettings k j (at (now (settings .entry)))) j blank ⌝ }
 {
-    let mut turned_modules = [0u8; MOST_SLOTS];
-    let mut turned_settings = [0u8; MOST_SLOTS];
+    let mut turned_modules = [0u8; WIDE];
+    let mut turned_settings = [0u8; WIDE];
     let mut i = 0;
     while i < j {
         let from = j - 1 - i;

@@ -27,11 +27,7 @@ rank-in-range {t} {total} {r} e h = lt-leb total r (rw (← e) h)
 pub lent-asked : (n k : ℕ) (ms ss : List ℕ) → lentVerdict n k ms ss ≡ Fine → LentAsked n k ms ss
 lent-asked n k ms ss e =
     let a = accepted n k ms ss e in
-    record {
-      asked = record { sizes = a .sizes; valid = a .valid-is };
-      modules = a .modules;
-      settings = a .settings;
-    }
+    record { sizes = a .sizes; valid = a .valid-is; modules = a .modules; settings = a .settings }
 
 -- what is known of a rank and two buffers that are not refused
 pub record RankAccepted (n k r one : ℕ) (xs : List ℕ) (two : ℕ) (ys : List ℕ) : Type 0 where

@@ -174,7 +174,7 @@ unrank-rank-setting (suc m) k M S ok i h =
     ∙ rw (rank-module ok, rank-setting ok, rank-rest ok, unrank-rank-module m k _ _ (prefix-valid ok) i a, unrank-rank-setting m k _ _ (prefix-valid ok) i a) (setting-back ok a))
     (unrank-setting-last m k _ ∙ rank-setting ok)
 
--- two arrangements of one rank the are same
+-- two arrangements of one rank are the same
 module _ {n k : ℕ} {M S M' S' : ℕ → ℕ} (ok : Valid n k M S) (ok' : Valid n k M' S') (e : rank n k M S ≡ rank n k M' S') (i : ℕ) (h : i < n) where
   pub rank-once-module : M i ≡ M' i
   rank-once-module = sym (unrank-rank-module n k M S ok i h) ∙ ap (λ r. unrankModules n k r i) e ∙ unrank-rank-module n k M' S' ok' i h

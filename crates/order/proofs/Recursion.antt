@@ -1,31 +1,30 @@
 -- One call of rank and of unrank on one slot fewer. n slots are suc m of them, with m = n - 1, so each law is a step of the
--- definition, and what the shorter call was handed agrees with it on every slot. Assumes nothing.
-use mathlib.Core.Path.{_≡_, refl, sym, ap, ap₂, _∙_}
+-- definition; and what stands behind the slots stays within the bounds that let every place be renamed. Assumes nothing.
+use mathlib.Core.Path.{_≡_, refl, sym, ap, ap₂, _∙_, subst}
 use mathlib.Core.List.{List}
 use Prim.Native.Nat.{ℕ, zero, suc, _+_, _-_, _*_, _/_, _%_, _≤_, _<_}
-use native.Mathlib.Nat.{mod-lt, mod-one, div-one, mod-eq-of-lt, div-lt-iff-lt-mul, mul-le-mul, mul-le-mul-right, mul-assoc, mul-comm, div-div-eq-div-mul, one-le-mul, le-refl, le-trans}
-use native.Mathlib.Numerals.{add-one}
+use native.Mathlib.Nat.{mod-lt, mod-one, div-one, mod-eq-of-lt, div-lt-iff-lt-mul, div-div-eq-div-mul, mul-le-mul, mul-comm, mul-pos, not-suc-le-zero, le-refl, le-trans}
 use native.Mathlib.Omega.{arith}
-use lib.ListN.{length, replicate}
-use lib.Arith.{mod-mul, digits-lt, digits-div, digits-mod}
-use Rattle.rows.specs.Row.{at, front}
-use Rattle.rows.proofs.Cases.{by-lt, if-lt, if-ge}
-use Rattle.rows.proofs.Rows.{read, front-ext, same-length}
+use lib.ListN.{length, set, getD-replicate}
+use lib.Arith.{digits-lt, digits-div}
+use Rattle.rows.specs.Row.{at, row, front}
+use Rattle.rows.proofs.Cases.{by-lt, by-eq, by-last, if-lt, if-ge}
+use Rattle.rows.proofs.Rows.{length-row, at-row, row-ext, read, unread, rewritten, same-length, Placed, placed}
 use Rattle.sizes.specs.Sizes.{weight, Permitted, mostSlots, mostSettings, mostArrangements}
 use Rattle.sizes.proofs.Weights.{weight-zero, weight-suc, weight-pos, weight-mono}
 use Rattle.arrangement.specs.Arrangement.{Cell, Valid}
+use Rattle.arrangement.specs.Copy.{wide, blank}
 use Rattle.arrangement.proofs.Validity.{valid-ext}
-use Rattle.order.specs.Rank.{lastDigit, moduleOf, settingOf, prefixModules, prefixSettings, rank, restoredModule, restoredModules, restoredSettings, unrankModules, unrankSettings}
-use Rattle.order.specs.Asked.{PutAsked, RankAsked, LentAsked, LastAsked, RestoreAsked, UnrankAsked}
-use Rattle.order.proofs.Ranks.{rank-ext, rank-lt, prefix-valid, last-digit-lt, cell-of-digit, unrank-module-last, unrank-setting-last, unrank-valid}
-
--- an empty row of 20 places
-abbrev pub zeros : List ℕ
-zeros = replicate mostSlots 0
+use Rattle.order.specs.Rank.{lastDigit, moduleOf, settingOf, prefixModules, prefixSettings, rank, renamedModule, renamedSetting, restoredModule, restoredSetting, unrankModules, unrankSettings}
+use Rattle.order.specs.Digits.{digit}
+use Rattle.order.specs.Asked.{Bounded, RenameAsked, PutAsked, RankAsked, LentAsked, RestoreAsked, UnrankAsked, Unranked, WriteAsked}
+use Rattle.order.proofs.Renaming.{renamed-setting-lt, restored-above, restored-below, restored-setting-lt}
+use Rattle.order.proofs.Ranks.{rank-ext, rank-lt, prefix-valid, last-digit-lt, cell-of-digit, unrank-module-front, unrank-module-last, unrank-setting-front, unrank-setting-last}
+use Rattle.order.proofs.Digits.{digit-lt, rest-one-more, rest-of-rest}
 
 -- ---- sizes
 
-pub weight-one : (k : ℕ) → weight 1 k ≡ k
+weight-one : (k : ℕ) → weight 1 k ≡ k
 weight-one k = rw (weight-suc, weight-zero) (omega arith)
 
 -- n slots are one more than n - 1
@@ -33,7 +32,7 @@ pub one-fewer : {n : ℕ} → 1 ≤ n → suc (n - 1) ≡ n
 one-fewer h = omega arith
 
 -- one slot fewer is permitted too
-pub permitted-fewer : {n k : ℕ} → Permitted n k → (n ≡ 1 → ⊥) → Permitted (n - 1) k
+permitted-fewer : {n k : ℕ} → Permitted n k → (n ≡ 1 → ⊥) → Permitted (n - 1) k
 permitted-fewer {n} {k} p ne = record {
   n-low = omega arith;
   n-high = omega arith;
@@ -61,26 +60,51 @@ module _ {n k v c r w : ℕ} (asked : PutAsked n k v c r w) where
   factor-fits = mul-le-mul (asked .sizes .k-high) (asked .sizes .n-high)
 
 -- of one slot the rank is its setting
-pub rank-one : {n k : ℕ} {M S : ℕ → ℕ} → n ≡ 1 → Valid n k M S → (S 0 ≡ rank n k M S) × (k ≡ weight n k)
+pub rank-one : {n k : ℕ} {M S : ℕ → ℕ} → n ≡ 1 → Valid n k M S → (S (n - 1) ≡ rank n k M S) × (k ≡ weight n k)
 unfolding rank lastDigit
 rank-one {n} {k} {M} {S} e v =
     let in-front = v .cell 0 (omega arith) in
-    (rw (e, weight-zero) (omega arith), rw e (sym (weight-one k)))
+    let zero-is : n - 1 ≡ 0 = omega arith in
+    (rw (zero-is, e, weight-zero) (omega arith), rw e (sym (weight-one k)))
 
--- more have a slot before the last
-pub prefix-asked : {n k : ℕ} {ms ss : List ℕ} → RankAsked n k ms ss → (n - 1 < mostSlots) × (k ≤ mostSettings) × Valid (suc (n - 1)) k (at ms) (at ss)
-prefix-asked asked =
-    (omega (arith, asked .sizes), asked .sizes .k-high, rw (one-fewer (asked .sizes .n-low)) (asked .valid))
+-- the last of n slots can be renamed by
+pub rename-asked : {n k : ℕ} {ms ss : List ℕ} → RankAsked n k ms ss → RenameAsked (n - 1) k ms ss
+rename-asked {n} asked =
+    let sizes = asked .sizes in
+    let in-last = asked .valid .cell (n - 1) (omega (arith, sizes)) in
+    record { m-high = omega (arith, sizes); k-high = sizes .k-high; last = omega (arith, sizes); bounded = asked .bounded }
 
--- of more, where ms' and ss' begin with the slots before the last, renamed
+-- a renamed module is at most 20 where the module was
+renamed-low : (n v w : ℕ) → n ≤ mostSlots → v ≤ n → w ≤ mostSlots → renamedModule n v w ≤ mostSlots
+unfolding renamedModule
+renamed-low n v w n-high v-high w-high =
+    by-lt v w (λ h. omega (arith, if-lt (w - v) (n - v + w) h)) (λ h. omega (arith, if-ge {a = v} {b = w} (w - v) (n - v + w) h))
+
+-- more slots than one: ms' and ss' are the rows renamed
 module _ {n k : ℕ} {ms ss ms' ss' : List ℕ} (asked : RankAsked n k ms ss) (ne : n ≡ 1 → ⊥)
-    (ms'-is : ms' ≡ front (prefixModules (n - 1) (at ms)) (n - 1) zeros)
-    (ss'-is : ss' ≡ front (prefixSettings (n - 1) k (at ms) (at ss)) (n - 1) zeros) where
+    (ms'-is : ms' ≡ row (prefixModules (n - 1) (at ms)) wide)
+    (ss'-is : ss' ≡ row (prefixSettings (n - 1) k (at ms) (at ss)) wide) where
+  module-is : (i : ℕ) → i < wide → prefixModules (n - 1) (at ms) i ≡ at ms' i
+  module-is i h = sym (ap (λ xs. at xs i) ms'-is ∙ at-row _ wide i h)
+
+  setting-is : (i : ℕ) → i < wide → prefixSettings (n - 1) k (at ms) (at ss) i ≡ at ss' i
+  setting-is i h = sym (ap (λ xs. at xs i) ss'-is ∙ at-row _ wide i h)
+
   same-modules : (i : ℕ) → i < n - 1 → prefixModules (n - 1) (at ms) i ≡ at ms' i
-  same-modules i h = sym (read _ (n - 1) zeros i ms'-is h)
+  same-modules i h = module-is i (omega (arith, asked .sizes))
 
   same-settings : (i : ℕ) → i < n - 1 → prefixSettings (n - 1) k (at ms) (at ss) i ≡ at ss' i
-  same-settings i h = sym (read _ (n - 1) zeros i ss'-is h)
+  same-settings i h = setting-is i (omega (arith, asked .sizes))
+
+  before-bounded : Bounded k ms' ss'
+  before-bounded =
+      let last = rename-asked asked in
+      record {
+        modules-wide = ap length ms'-is ∙ length-row _ wide;
+        settings-wide = ap length ss'-is ∙ length-row _ wide;
+        modules-low = λ i h. rw (← module-is i h) (renamed-low (suc (n - 1)) (at ms (n - 1)) (at ms i) (last .m-high) (last .last) (asked .bounded .modules-low i h));
+        settings-low = λ i h. rw (← setting-is i h) (renamed-setting-lt k (at ms (n - 1)) (at ss (n - 1)) (at ms i) (at ss i) (asked .sizes .k-low));
+      }
 
   before-valid : Valid (n - 1) k (prefixModules (n - 1) (at ms)) (prefixSettings (n - 1) k (at ms) (at ss))
   before-valid =
@@ -90,6 +114,7 @@ module _ {n k : ℕ} {ms ss ms' ss' : List ℕ} (asked : RankAsked n k ms ss) (n
   before-asked = record {
     sizes = permitted-fewer (asked .sizes) ne;
     valid = valid-ext same-modules same-settings before-valid;
+    bounded = before-bounded;
   }
 
   module _ {r w : ℕ} (r-is : r ≡ rank (n - 1) k (at ms') (at ss')) (w-is : w ≡ weight (n - 1) k) where
@@ -110,165 +135,188 @@ module _ {n k : ℕ} {ms ss ms' ss' : List ℕ} (asked : RankAsked n k ms ss) (n
         ap (λ a. lastDigit a (at ms (n - 1)) (at ss (n - 1)) * weight (n - 1) k + rank (n - 1) k (prefixModules (n - 1) (at ms)) (prefixSettings (n - 1) k (at ms) (at ss))) (sym whole) ∙
         ap (λ a. rank a k (at ms) (at ss)) whole
 
--- ---- the last digit taken off
-
-module _ {n k r w : ℕ} (asked : LastAsked n k r w) where
-  w-pos : 1 ≤ w
-  w-pos = rw (asked .weight-is) (weight-pos (n - 1) k (asked .sizes .k-low))
-
-  pub part-fits : n * w ≤ mostArrangements
-  part-fits =
-      let more : 1 * (n * w) ≤ k * (n * w) = mul-le-mul-right (n * w) (asked .sizes .k-low) in
-      omega (arith, weight-n n k (asked .sizes .n-low) (asked .weight-is), mul-assoc k n w, asked .sizes .few)
-
-  pub part-pos : (1 ≤ n * w) × (1 ≤ w)
-  part-pos = (one-le-mul (asked .sizes .n-low) w-pos, w-pos)
-
-  digit-lt : r / w < k * n
-  digit-lt = div-lt-iff-lt-mul w-pos .1 (rw (weight-n n k (asked .sizes .n-low) (asked .weight-is)) (asked .rank))
-
-  pub last-cell : Cell n k (moduleOf n (r / w)) (settingOf n (r / w))
-  last-cell =
-      let whole = one-fewer (asked .sizes .n-low) in
-      rw whole at (cell-of-digit (n - 1) k (r / w) (rw whole digit-lt))
-
-  -- the setting is found first, as often as n times the weight fits, and then the module
-  module _ {x y : ℕ} (x-is : x ≡ r / (n * w)) (y-is : y ≡ r % (n * w)) where
-    pub setting-taken : x ≡ settingOf n (r / w)
-    unfolding settingOf
-    setting-taken = x-is ∙ ap (λ a. r / a) (mul-comm n w) ∙ sym (div-div-eq-div-mul r w n)
-
-    rest-is : y ≡ (r / w % n) * w + r % w
-    rest-is = y-is ∙ mod-mul r (asked .sizes .n-low) w-pos
-
-    times-is : y / w ≡ r / w % n
-    times-is = ap (λ a. a / w) rest-is ∙ digits-div (r / w % n) (mod-lt r w-pos)
-
-    pub module-taken : {z : ℕ} → z ≡ y / w → (z ≤ n) × (n - z ≡ moduleOf n (r / w))
-    unfolding moduleOf
-    module-taken z-is =
-        let e = z-is ∙ times-is in (omega (arith, e, mod-lt (r / w) (asked .sizes .n-low)), ap (λ a. n - a) e)
-
-    pub rest-taken : y % w ≡ r % w
-    rest-taken = ap (λ a. a % w) rest-is ∙ digits-mod (r / w % n) (mod-lt r w-pos)
-
--- ---- unrank
-
--- the arrangement of a rank of one slot
-pub unrank-one : (k r : ℕ) → r < k → (unrankModules 1 k r 0 ≡ 1) × (unrankSettings 1 k r 0 ≡ r)
-unfolding moduleOf settingOf
-unrank-one k r h =
-    (unrank-module-last 0 k r ∙ rw mod-one, unrank-setting-last 0 k r ∙ rw (weight-zero, div-one) (rw div-one))
-
-pub single-asked : {n k r : ℕ} {ws : List ℕ} → UnrankAsked n k r ws → n ≡ 1 → (r < k) × (k ≤ mostSettings)
-single-asked {n} {k} asked e =
-    let all = ap (λ a. weight a k) e ∙ weight-one k in (omega (arith, asked .rank, all), asked .sizes .k-high)
-
--- n slots, where n is 1
-pub single-is : {n : ℕ} {ys : List ℕ} (f : ℕ → ℕ → ℕ) → n ≡ 1 → ys ≡ front (f 1) 1 zeros → ys ≡ front (f n) n zeros
-single-is f e ys-is = rw e ys-is
-
--- v:c restored behind the slots of the rest is the arrangement of the rank
-module _ (m k r : ℕ) {v c : ℕ} {M S : ℕ → ℕ} (v-is : v ≡ moduleOf (suc m) (r / weight m k)) (c-is : c ≡ settingOf (suc m) (r / weight m k))
-    (M-is : (i : ℕ) → i < m → unrankModules m k (r % weight m k) i ≡ M i) (S-is : (i : ℕ) → i < m → unrankSettings m k (r % weight m k) i ≡ S i) where
-  unranked-module : (i : ℕ) → restoredModules m v M i ≡ unrankModules (suc m) k r i
-  unfolding unrankModules
-  unranked-module i =
-      by-lt i m
-      (λ h. if-lt _ _ h ∙ ap₂ (restoredModule (suc m)) v-is (sym (M-is i h)) ∙ sym (if-lt _ _ h))
-      (λ h. if-ge _ _ h ∙ v-is ∙ sym (if-ge _ _ h))
-
-  unranked-setting : (i : ℕ) → restoredSettings m k v c M S i ≡ unrankSettings (suc m) k r i
-  unfolding unrankSettings
-  unranked-setting i =
-      by-lt i m
-      (λ h. if-lt _ _ h ∙ cc (v-is, c-is, M-is i h, S-is i h) ∙ sym (if-lt _ _ h))
-      (λ h. if-ge _ _ h ∙ c-is ∙ sym (if-ge _ _ h))
-
--- of more
-module _ {n k r : ℕ} {ws : List ℕ} (asked : UnrankAsked n k r ws) where
-  w-is : at ws (n - 1) ≡ weight (n - 1) k
-  w-is = asked .weights (n - 1) (omega (arith, asked .sizes))
-
-  pub last-asked : LastAsked n k r (at ws (n - 1))
-  last-asked = record { sizes = asked .sizes; rank = asked .rank; weight-is = w-is }
-
-  module _ {x : ℕ} (ne : n ≡ 1 → ⊥) (x-is : x ≡ r % at ws (n - 1)) where
-    x-rest : x ≡ r % weight (n - 1) k
-    x-rest = x-is ∙ ap (λ a. r % a) w-is
-
-    pub rest-asked : UnrankAsked (n - 1) k x ws
-    rest-asked = record {
-      sizes = permitted-fewer (asked .sizes) ne;
-      rank = rw x-rest (mod-lt r (weight-pos (n - 1) k (asked .sizes .k-low)));
-      enough = omega (arith, asked .enough);
-      weights = λ m h. asked .weights m (omega arith);
-    }
-
-    -- where v:c was taken off, and ms and ss are the slots of the rest
-    module _ {v c : ℕ} {ms ss : List ℕ} (v-is : v ≡ moduleOf n (r / at ws (n - 1))) (c-is : c ≡ settingOf n (r / at ws (n - 1)))
-        (ms-is : ms ≡ front (unrankModules (n - 1) k x) (n - 1) zeros) (ss-is : ss ≡ front (unrankSettings (n - 1) k x) (n - 1) zeros) where
-      rest-modules : (i : ℕ) → i < n - 1 → unrankModules (n - 1) k x i ≡ at ms i
-      rest-modules i h = sym (read _ (n - 1) zeros i ms-is h)
-
-      rest-settings : (i : ℕ) → i < n - 1 → unrankSettings (n - 1) k x i ≡ at ss i
-      rest-settings i h = sym (read _ (n - 1) zeros i ss-is h)
-
-      pub restore-asked : RestoreAsked (n - 1) k v c ms ss
-      restore-asked =
-          let whole = one-fewer (asked .sizes .n-low) in
-          let p = asked .sizes in
-          record {
-            m-high = omega (arith, p .n-low, p .n-high);
-            k-high = p .k-high;
-            cell = rw (whole, v-is, c-is) (last-cell last-asked);
-            valid = valid-ext rest-modules rest-settings (unrank-valid (n - 1) k x (p .k-low) (rest-asked .rank));
-          }
-
-      -- with m = n - 1
-      v-last : v ≡ moduleOf (suc (n - 1)) (r / weight (n - 1) k)
-      v-last = v-is ∙ ap₂ (λ (a b : ℕ). moduleOf a (r / b)) (sym (one-fewer (asked .sizes .n-low))) w-is
-
-      c-last : c ≡ settingOf (suc (n - 1)) (r / weight (n - 1) k)
-      c-last = c-is ∙ ap₂ (λ (a b : ℕ). settingOf a (r / b)) (sym (one-fewer (asked .sizes .n-low))) w-is
-
-      M-last : (i : ℕ) → i < n - 1 → unrankModules (n - 1) k (r % weight (n - 1) k) i ≡ at ms i
-      M-last i h = ap (λ y. unrankModules (n - 1) k y i) (sym x-rest) ∙ rest-modules i h
-
-      S-last : (i : ℕ) → i < n - 1 → unrankSettings (n - 1) k (r % weight (n - 1) k) i ≡ at ss i
-      S-last i h = ap (λ y. unrankSettings (n - 1) k y i) (sym x-rest) ∙ rest-settings i h
-
-      pub modules-unranked : {ys : List ℕ} → ys ≡ front (restoredModules (n - 1) v (at ms)) (n - 1 + 1) zeros → ys ≡ front (unrankModules n k r) n zeros
-      modules-unranked ys-is =
-          ys-is ∙ front-ext _ _ (n - 1 + 1) zeros (λ i h. unranked-module (n - 1) k r v-last c-last M-last S-last i) ∙
-          ap₂ (λ (a b : ℕ). front (unrankModules a k r) b zeros) (one-fewer (asked .sizes .n-low)) (add-one (n - 1) ∙ one-fewer (asked .sizes .n-low))
-
-      pub settings-unranked : {ys : List ℕ} → ys ≡ front (restoredSettings (n - 1) k v c (at ms) (at ss)) (n - 1 + 1) zeros → ys ≡ front (unrankSettings n k r) n zeros
-      settings-unranked ys-is =
-          ys-is ∙ front-ext _ _ (n - 1 + 1) zeros (λ i h. unranked-setting (n - 1) k r v-last c-last M-last S-last i) ∙
-          ap₂ (λ (a b : ℕ). front (unrankSettings a k r) b zeros) (one-fewer (asked .sizes .n-low)) (add-one (n - 1) ∙ one-fewer (asked .sizes .n-low))
-
--- ---- from lent rows, and with weights worked out
-
 -- a lent arrangement, loaded
-pub loaded : {n k : ℕ} {ms ss ms' ss' : List ℕ} → LentAsked n k ms ss → ms' ≡ front (at ms) (length ms) zeros → ss' ≡ front (at ss) (length ss) zeros →
+pub loaded : {n k : ℕ} {ms ss ms' ss' : List ℕ} → LentAsked n k ms ss → ms' ≡ front (at ms) (length ms) blank → ss' ≡ front (at ss) (length ss) blank →
     RankAsked n k ms' ss' × (rank n k (at ms') (at ss') ≡ rank n k (at ms) (at ss))
 loaded {n} {k} {ms} {ss} {ms'} {ss'} lent ms'-is ss'-is = (
-  record { sizes = lent .asked .sizes; valid = valid-ext same-M same-S (lent .asked .valid) },
+  record {
+    sizes = p;
+    valid = valid-ext same-M same-S (lent .valid);
+    bounded = record {
+      modules-wide = same-length (at ms) (length ms) blank ms'-is (omega (arith, p, lent .modules));
+      settings-wide = same-length (at ss) (length ss) blank ss'-is (omega (arith, p, lent .settings));
+      modules-low = λ i h. by-lt i n (λ l. omega (arith, same-M i l, lent .valid .cell i l, p)) (λ l. omega (arith, behind-M i l h));
+      settings-low = λ i h. by-lt i n (λ l. omega (arith, same-S i l, lent .valid .cell i l)) (λ l. omega (arith, behind-S i l h, p));
+    };
+  },
   sym (rank-ext n k (at ms) (at ss) (at ms') (at ss') same-M same-S),
 )
   where
+    p : Permitted n k
+    p = lent .sizes
+
     same-M : (i : ℕ) → i < n → at ms i ≡ at ms' i
-    same-M i h = sym (read (at ms) (length ms) zeros i ms'-is (omega (arith, lent .modules)))
+    same-M i h = sym (read (at ms) (length ms) blank i ms'-is (omega (arith, lent .modules)))
 
     same-S : (i : ℕ) → i < n → at ss i ≡ at ss' i
-    same-S i h = sym (read (at ss) (length ss) zeros i ss'-is (omega (arith, lent .settings)))
+    same-S i h = sym (read (at ss) (length ss) blank i ss'-is (omega (arith, lent .settings)))
 
--- a rank, and the row of weights
-pub weighed : {n k r : ℕ} {ws : List ℕ} → Permitted n k → r < weight n k → ws ≡ front (λ m. weight m k) n zeros → UnrankAsked n k r ws
-weighed {n} {k} {r} {ws} p h ws-is = record {
-  sizes = p;
-  rank = h;
-  enough = omega (arith, p, same-length (λ m. weight m k) n zeros ws-is (omega (arith, p)));
-  weights = λ m l. read (λ m. weight m k) n zeros m ws-is l;
+    behind-M : (i : ℕ) → n ≤ i → i < wide → at ms' i ≡ 0
+    behind-M i l h = unread (at ms) (length ms) blank i ms'-is (omega (arith, lent .modules)) ∙ getD-replicate wide i 0 0 h
+
+    behind-S : (i : ℕ) → n ≤ i → i < wide → at ss' i ≡ 0
+    behind-S i l h = unread (at ss) (length ss) blank i ss'-is (omega (arith, lent .settings)) ∙ getD-replicate wide i 0 0 h
+
+-- ---- unrank
+
+-- no digits at all
+pub none-unranked : {n k r : ℕ} {ms ss : List ℕ} → n ≡ 0 → Bounded k ms ss → (r ≡ r / weight n k) × Unranked n k r ms ss
+none-unranked {n} {k} {r} e bounded = (
+  rw (e, weight-zero) (sym (div-one r)),
+  record { modules = λ i h. absurd (omega arith); settings = λ i h. absurd (omega arith); bounded = bounded },
+)
+
+-- a restored module is at most 20 where the module was
+restored-low : (n v x : ℕ) → n ≤ mostSlots → v ≤ n → x ≤ mostSlots → restoredModule n v x ≤ mostSlots
+restored-low n v x n-high v-high x-high =
+    by-lt n (v + x) (λ h. omega (arith, restored-below n v x h)) (λ h. omega (arith, restored-above n v x h))
+
+-- one digit more: v:c is its cell, ms and ss hold the arrangement of the digits below it, and ms' and ss' are the rows restored
+module _ (m k r : ℕ) {v c : ℕ} {ms ss ms' ss' : List ℕ} (asked : RestoreAsked m k v c ms ss)
+    (v-is : v ≡ moduleOf (suc m) (digit k r (suc m))) (c-is : c ≡ settingOf (suc m) (digit k r (suc m))) (below : Unranked m k r ms ss)
+    (ms'-is : ms' ≡ set (row (λ i. restoredModule (suc m) v (at ms i)) wide) m v)
+    (ss'-is : ss' ≡ set (row (λ i. restoredSetting (suc m) k v c (at ms i) (at ss i)) wide) m c) where
+  k-pos : 1 ≤ k
+  k-pos = omega (arith, asked .cell)
+
+  -- the digits of the rest of r
+  abbrev rest : ℕ
+  rest = r % weight (suc m) k
+
+  rest-digit : rest / weight m k ≡ digit k r (suc m)
+  rest-digit =
+      ap (λ x. x / weight m k) (rest-one-more k k-pos m r) ∙ digits-div (digit k r (suc m)) (mod-lt r (weight-pos m k k-pos))
+
+  rest-below : rest % weight m k ≡ r % weight m k
+  rest-below = rest-of-rest k k-pos m (suc m) r (omega arith)
+
+  -- the place m, and every other place
+  modules-placed : Placed (λ i. restoredModule (suc m) v (at ms i)) wide m v ms'
+  modules-placed = placed _ wide m v ms'-is (omega (arith, asked .m-high))
+
+  settings-placed : Placed (λ i. restoredSetting (suc m) k v c (at ms i) (at ss i)) wide m c ss'
+  settings-placed = placed _ wide m c ss'-is (omega (arith, asked .m-high))
+
+  one-more-module : (i : ℕ) → i < suc m → at ms' i ≡ unrankModules (suc m) k rest i
+  one-more-module i h =
+      by-last (λ x. at ms' x ≡ unrankModules (suc m) k rest x) h
+      (λ l. modules-placed .elsewhere i (omega (arith, asked .m-high)) (λ e. absurd (omega arith)) ∙ cc (v-is, rest-digit, rest-below, below .modules i l, unrank-module-front m k rest l))
+      (modules-placed .here ∙ v-is ∙ ap (moduleOf (suc m)) (sym rest-digit) ∙ sym (unrank-module-last m k rest))
+
+  one-more-setting : (i : ℕ) → i < suc m → at ss' i ≡ unrankSettings (suc m) k rest i
+  one-more-setting i h =
+      by-last (λ x. at ss' x ≡ unrankSettings (suc m) k rest x) h
+      (λ l. settings-placed .elsewhere i (omega (arith, asked .m-high)) (λ e. absurd (omega arith)) ∙ cc (v-is, c-is, rest-digit, rest-below, below .modules i l, below .settings i l, unrank-setting-front m k rest l))
+      (settings-placed .here ∙ c-is ∙ ap (settingOf (suc m)) (sym rest-digit) ∙ sym (unrank-setting-last m k rest))
+
+  one-more-bounded : Bounded k ms' ss'
+  one-more-bounded = record {
+    modules-wide = modules-placed .as-long;
+    settings-wide = settings-placed .as-long;
+    modules-low = λ i h. by-eq i m (λ e. rw e (omega (arith, modules-placed .here, asked .cell, asked .m-high)))
+        (λ ne. omega (arith, modules-placed .elsewhere i h ne, restored-low (suc m) v (at ms i) (asked .m-high) (asked .cell .high) (asked .bounded .modules-low i h)));
+    settings-low = λ i h. by-eq i m (λ e. rw e (omega (arith, settings-placed .here, asked .cell)))
+        (λ ne. omega (arith, settings-placed .elsewhere i h ne, restored-setting-lt (suc m) k v c (at ms i) (at ss i) k-pos));
+  }
+
+  one-more : Unranked (suc m) k r ms' ss'
+  one-more = record { modules = one-more-module; settings = one-more-setting; bounded = one-more-bounded }
+
+pub fewer-asked : {n k : ℕ} {ms ss : List ℕ} → UnrankAsked n k ms ss → UnrankAsked (n - 1) k ms ss
+fewer-asked asked = record { n-high = omega (arith, asked .n-high); k-low = asked .k-low; k-high = asked .k-high; bounded = asked .bounded }
+
+-- the sizes of a digit of n slots and of its cell
+pub record TakenFits (n k above : ℕ) : Type 0 where
+  pub n-pos : 1 ≤ n
+  pub base-pos : 1 ≤ k * n
+  pub base-small : k * n ≤ mostSettings * mostSlots
+  pub module-fits : above % (k * n) % n ≤ n
+  pub module-small : n - above % (k * n) % n ≤ mostSlots
+  pub setting-small : above % (k * n) / n ≤ mostSettings
+
+-- the same of n digits, where the rank above the others is r divided by their weight
+module _ {n k above : ℕ} {ms₀ ss₀ : List ℕ} (r : ℕ) (asked : UnrankAsked n k ms₀ ss₀) (ne : n ≡ 0 → ⊥) (above-is : above ≡ r / weight (n - 1) k) where
+  n-pos : 1 ≤ n
+  n-pos = omega arith
+
+  pub above-taken : above / (k * n) ≡ r / weight n k
+  above-taken =
+      ap (λ x. x / (k * n)) above-is ∙ div-div-eq-div-mul r (weight (n - 1) k) (k * n) ∙
+      ap (λ x. r / x) (mul-comm (weight (n - 1) k) (k * n) ∙ weight-n n k n-pos refl)
+
+  module-taken : n - above % (k * n) % n ≡ moduleOf (suc (n - 1)) (digit k r (suc (n - 1)))
+  unfolding moduleOf digit
+  module-taken = rw (one-fewer n-pos, above-is)
+
+  setting-taken : above % (k * n) / n ≡ settingOf (suc (n - 1)) (digit k r (suc (n - 1)))
+  unfolding settingOf digit
+  setting-taken = rw (one-fewer n-pos, above-is)
+
+  cell-taken : Cell (suc (n - 1)) k (n - above % (k * n) % n) (above % (k * n) / n)
+  cell-taken = rw (module-taken, setting-taken) (cell-of-digit (n - 1) k (digit k r (suc (n - 1))) (digit-lt (n - 1) k r (asked .k-low)))
+
+  -- what the code works out on the way fits
+  pub taken-fits : TakenFits n k above
+  taken-fits = record {
+    n-pos = n-pos;
+    base-pos = mul-pos (asked .k-low) n-pos;
+    base-small = mul-le-mul (asked .k-high) (asked .n-high);
+    module-fits = omega (arith, mod-lt (above % (k * n)) n-pos);
+    module-small = omega (arith, asked .n-high);
+    setting-small = omega (arith, cell-taken .setting, asked .k-high);
+  }
+
+  module _ {ms ss : List ℕ} (below : Unranked (n - 1) k r ms ss) where
+    pub restore-asked : RestoreAsked (n - 1) k (n - above % (k * n) % n) (above % (k * n) / n) ms ss
+    restore-asked = record {
+      m-high = omega (arith, asked .n-high);
+      k-high = asked .k-high;
+      cell = cell-taken;
+      bounded = below .bounded;
+    }
+
+    pub unranked : {ms' ss' : List ℕ} →
+        ms' ≡ set (row (λ i. restoredModule (suc (n - 1)) (n - above % (k * n) % n) (at ms i)) wide) (n - 1) (n - above % (k * n) % n) →
+        ss' ≡ set (row (λ i. restoredSetting (suc (n - 1)) k (n - above % (k * n) % n) (above % (k * n) / n) (at ms i) (at ss i)) wide) (n - 1) (above % (k * n) / n) →
+        Unranked n k r ms' ss'
+    unranked {ms'} {ss'} ms'-is ss'-is =
+        subst (λ x. Unranked x k r ms' ss') (one-fewer n-pos)
+        (one-more (n - 1) k r restore-asked module-taken setting-taken below ms'-is ss'-is)
+
+-- ---- writing an arrangement
+
+-- the slots of a rank, stored over all n places of a row
+module _ {n k r : ℕ} {ms ss : List ℕ} (h : r < weight n k) (slots : Unranked n k r ms ss) (xs : List ℕ) {ys : List ℕ} (whole : length xs ≡ n) where
+  pub modules-stored : ys ≡ front (at ms) n xs → ys ≡ row (unrankModules n k r) n
+  modules-stored ys-is =
+      rewritten (at ms) n n xs ys-is refl whole ∙
+      row-ext _ _ n (λ i l. slots .modules i l ∙ ap (λ x. unrankModules n k x i) (mod-eq-of-lt h))
+
+  pub settings-stored : ys ≡ front (at ss) n xs → ys ≡ row (unrankSettings n k r) n
+  settings-stored ys-is =
+      rewritten (at ss) n n xs ys-is refl whole ∙
+      row-ext _ _ n (λ i l. slots .settings i l ∙ ap (λ x. unrankSettings n k x i) (mod-eq-of-lt h))
+
+-- rows with nothing in them can be unranked into
+pub blank-asked : {n k : ℕ} → Permitted n k → UnrankAsked n k blank blank
+blank-asked p = record {
+  n-high = p .n-high;
+  k-low = p .k-low;
+  k-high = p .k-high;
+  bounded = record {
+    modules-wide = refl;
+    settings-wide = refl;
+    modules-low = λ i h. omega (arith, getD-replicate {A = ℕ} wide i 0 0 h);
+    settings-low = λ i h. omega (arith, getD-replicate {A = ℕ} wide i 0 0 h, p .k-low);
+  };
 }

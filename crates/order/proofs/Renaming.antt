@@ -5,6 +5,7 @@ use mathlib.Core.Path.{_≡_, ap, _∙_}
 use mathlib.Core.Logic.{_≢_}
 use Prim.Native.Nat.{ℕ, suc, _+_, _-_, _%_, _≤_, _<_}
 use native.Mathlib.Nat.{mod-lt, mod-eq-of-lt, mod-add-mod, add-mod-right, mod-self}
+use native.Mathlib.Numerals.{add-one}
 use native.Mathlib.Omega.{arith}
 use Rattle.rows.proofs.Cases.{by-lt, by-ne, if-lt, if-ge}
 use Rattle.arrangement.specs.Arrangement.{Cell}
@@ -86,11 +87,11 @@ module _ (k v c : ℕ) where
   unfolding restoredSetting
   restored-setting-above n x s h = ap (raisedBy k s) (if-ge _ _ h)
 
-renamed-setting-lt : (k v c w s : ℕ) → 1 ≤ k → renamedSetting k v c w s < k
+pub renamed-setting-lt : (k v c w s : ℕ) → 1 ≤ k → renamedSetting k v c w s < k
 unfolding renamedSetting
 renamed-setting-lt k v c w s h = lowered-lt k s _ h
 
-restored-setting-lt : (n k v c x s : ℕ) → 1 ≤ k → restoredSetting n k v c x s < k
+pub restored-setting-lt : (n k v c x s : ℕ) → 1 ≤ k → restoredSetting n k v c x s < k
 unfolding restoredSetting
 restored-setting-lt n k v c x s h = raisedBy-lt k s _ h
 
@@ -165,3 +166,18 @@ module _ (k s d : ℕ) where
   raised-wraps h l m =
       let e : s + d ≡ s + d - k + k = omega arith in
       ap (λ x. x % k) e ∙ add-mod-right (s + d - k) k ∙ mod-eq-of-lt (omega arith)
+
+-- ---- cells as the code renames and restores them, where they stand: w:s is what stood in slot i
+
+module _ (m k : ℕ) (M S : ℕ → ℕ) (i : ℕ) {r w : ℕ} (w-is : w ≡ M i) where
+  pub module-renamed : r ≡ renamedModule (m + 1) (M m) w → r ≡ renamedModule (suc m) (M m) (M i)
+  module-renamed r-is = r-is ∙ cc (add-one m)
+
+  pub setting-renamed : {s : ℕ} → s ≡ S i → r ≡ renamedSetting k (M m) (S m) w s → r ≡ renamedSetting k (M m) (S m) (M i) (S i)
+  setting-renamed s-is r-is = cc
+
+  pub module-restored : (v : ℕ) → r ≡ restoredModule (m + 1) v w → r ≡ restoredModule (suc m) v (M i)
+  module-restored v r-is = r-is ∙ cc (add-one m)
+
+  pub setting-restored : {s : ℕ} (v c : ℕ) → s ≡ S i → r ≡ restoredSetting (m + 1) k v c w s → r ≡ restoredSetting (suc m) k v c (M i) (S i)
+  setting-restored v c s-is r-is = r-is ∙ cc (add-one m)

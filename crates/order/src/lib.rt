@@ -3,11 +3,3 @@
 pub mod check;
 pub mod rank;
 pub mod unrank;
-
-use sizes::MOST_SLOTS;
-
-// Modules and settings by slot, and 0 behind those in use.
-pub struct Slots {
-    pub modules: [u8; MOST_SLOTS],
-    pub settings: [u8; MOST_SLOTS],
-}

@@ -1,16 +1,16 @@
 // The rank of an arrangement: the last digit times its weight, and the rank of the slots before the
-// last, renamed.
-use crate::Slots;
+// last, renamed. The slots are renamed where they stand, in rows by value that are lent from call to
+// call.
 use arrangement::copy;
-use sizes::MOST_SLOTS;
+use arrangement::copy::WIDE;
 ghost use mathlib.Core.Path.{_≡_};
 ghost use Prim.Native.Nat.{suc, _+_, _*_, _≤_, _<_};
-ghost use lib.ListN.{replicate};
-ghost use Rattle.rows.specs.Row.{at, front};
+ghost use Rattle.rows.specs.Row.{at, row};
+ghost use Rattle.rows.specs.Search.{ifLt};
 ghost use Rattle.sizes.specs.Sizes.{weight as weightOf, mostSlots, mostSettings};
-ghost use Rattle.arrangement.specs.Arrangement.{Valid};
+ghost use Rattle.arrangement.specs.Copy.{wide};
 ghost use Rattle.order.specs.Rank.{loweredBy, renamedModule, renamedSetting, prefixModules, prefixSettings, lastDigit, rank};
-ghost use Rattle.order.specs.Asked.{PutAsked, RankAsked, LentAsked};
+ghost use Rattle.order.specs.Asked.{RenameAsked, PutAsked, RankAsked, LentAsked};
 
 // A rank, and the number of ranks of as many slots.
 pub struct Ranked {
@@ -32,10 +32,18 @@ fn lower(k: u8, setting: u8, d: u8) -> u8
 
 // Module w renamed, with v:c in the last of n slots.
 fn rename_module(n: u8, v: u8, w: u8) -> u8
-    requires { ⌜ (n ≤ mostSlots) × (v ≤ n) × (w ≤ n) ⌝ }
+    requires { ⌜ (n ≤ mostSlots) × (v ≤ n) × (w ≤ mostSlots) ⌝ }
     ensures { λ r. ⌜ r ≡ renamedModule n v w ⌝ }
 {
     if v < w { w - v } else { n - v + w }
+}
+
+// By how much the setting of module w is lowered.
+fn down(v: u8, c: u8, w: u8) -> u8
+    requires { ⌜ c < mostSettings ⌝ }
+    ensures { λ r. ⌜ r ≡ ifLt v w (suc c) c ⌝ }
+{
+    if v < w { c + 1 } else { c }
 }
 
 // The setting of module w renamed.
@@ -43,34 +51,26 @@ fn rename_setting(k: u8, v: u8, c: u8, w: u8, setting: u8) -> u8
     requires { ⌜ (setting < k) × (c < k) × (k ≤ mostSettings) ⌝ }
     ensures { λ r. ⌜ r ≡ renamedSetting k v c w setting ⌝ }
 {
-    if v < w {
-        lower(k, setting, c + 1)
-    } else {
-        lower(k, setting, c)
-    }
+    lower(k, setting, down(v, c, w))
 }
 
-// The first m of m + 1 slots, renamed.
-fn prefix(m: usize, k: usize, modules: [u8; MOST_SLOTS], settings: [u8; MOST_SLOTS]) -> Slots
-    requires { ⌜ (m < mostSlots) × (k ≤ mostSettings) × Valid (suc m) k (at modules) (at settings) ⌝ }
-    ensures { λ r. ⌜ r .modules ≡ front (prefixModules m (at modules)) m (replicate mostSlots 0) ⌝ }
-    ensures { λ r. ⌜ r .settings ≡ front (prefixSettings m k (at modules) (at settings)) m (replicate mostSlots 0) ⌝ }
+// Renames the first m of m + 1 slots. What stands behind them is renamed too, and not looked at
+// again: a loop over all places is the faster one.
+fn rename(m: usize, k: usize, modules: &mut [u8; WIDE], settings: &mut [u8; WIDE])
+    requires { ⌜ RenameAsked m k (now modules) (now settings) ⌝ }
+    ensures { λ _. ⌜ now (modules .exit) ≡ row (prefixModules m (at (now (modules .entry)))) wide ⌝ }
+    ensures { λ _. ⌜ now (settings .exit) ≡ row (prefixSettings m k (at (now (modules .entry))) (at (now (settings .entry)))) wide ⌝ }
 {
-    let mut renamed_modules = [0u8; MOST_SLOTS];
-    let mut renamed_settings = [0u8; MOST_SLOTS];
     let n = (m + 1) as u8;
+    let most = k as u8;
     let v = modules[m];
     let c = settings[m];
     let mut i = 0;
-    while i < m {
+    while i < WIDE {
         let w = modules[i];
-        renamed_modules[i] = rename_module(n, v, w);
-        renamed_settings[i] = rename_setting(k as u8, v, c, w, settings[i]);
+        modules[i] = rename_module(n, v, w);
+        settings[i] = rename_setting(most, v, c, w, settings[i]);
         i += 1;
-    }
-    Slots {
-        modules: renamed_modules,
-        settings: renamed_settings,
     }
 }
 
@@ -93,23 +93,23 @@ fn put_last(n: usize, k: usize, v: u8, c: u8, rank: u64, weight: u64) -> Ranked
     }
 }
 
-// The rank of the first n slots.
-fn rank_slots(n: usize, k: usize, modules: [u8; MOST_SLOTS], settings: [u8; MOST_SLOTS]) -> Ranked
-    requires { ⌜ RankAsked n k modules settings ⌝ }
-    ensures { λ r. ⌜ (r .rank ≡ rank n k (at modules) (at settings)) × (r .weight ≡ weightOf n k) ⌝ }
+// The rank of the first n slots, which are renamed on the way.
+fn rank_slots(n: usize, k: usize, modules: &mut [u8; WIDE], settings: &mut [u8; WIDE]) -> Ranked
+    requires { ⌜ RankAsked n k (now modules) (now settings) ⌝ }
+    ensures { λ r. ⌜ (r .rank ≡ rank n k (at (now (modules .entry))) (at (now (settings .entry)))) × (r .weight ≡ weightOf n k) ⌝ }
 {
+    let m = n - 1;
+    let v = modules[m];
+    let c = settings[m];
     if n == 1 {
         return Ranked {
-            rank: settings[0] as u64,
+            rank: c as u64,
             weight: k as u64,
         };
     }
-    let m = n - 1;
-    let before = prefix(m, k, modules, settings);
-    let before_modules = before.modules;
-    let before_settings = before.settings;
-    let below = rank_slots(m, k, before_modules, before_settings);
-    put_last(n, k, modules[m], settings[m], below.rank, below.weight)
+    rename(m, k, modules, settings);
+    let below = rank_slots(m, k, modules, settings);
+    put_last(n, k, v, c, below.rank, below.weight)
 }
 
 // The rank of an arrangement that has been checked.
@@ -117,6 +117,8 @@ pub fn rank(n: usize, k: usize, modules: &[u8], settings: &[u8]) -> u64
     requires { ⌜ LentAsked n k (now modules) (now settings) ⌝ }
     ensures { λ r. ⌜ r ≡ rank n k (at (now (modules .entry))) (at (now (settings .entry))) ⌝ }
 {
-    let ranked = rank_slots(n, k, copy::load(modules), copy::load(settings));
+    let mut copied_modules = copy::load(modules);
+    let mut copied_settings = copy::load(settings);
+    let ranked = rank_slots(n, k, &mut copied_modules, &mut copied_settings);
     ranked.rank
 }

@@ -1,72 +1,16 @@
-// The arrangement of a rank: the last digit is taken off, and the slots of what is left are those
-// before the last, with the renaming undone.
-use crate::Slots;
+// The arrangement of a rank: the digits are taken off from the lowest up, and with each the slots
+// before it have their renaming undone, where they stand.
 use arrangement::copy;
-use sizes::MOST_SLOTS;
+use arrangement::copy::WIDE;
 ghost use mathlib.Core.Path.{_≡_};
-ghost use Prim.Native.Nat.{_+_, _/_, _%_, _≤_, _<_};
-ghost use lib.ListN.{replicate};
-ghost use Rattle.rows.specs.Row.{at, row, front};
-ghost use Rattle.sizes.specs.Sizes.{weight, Permitted, mostSlots, mostSettings};
-ghost use Rattle.order.specs.Rank.{raisedBy, restoredModule, restoredSetting, restoredModules, restoredSettings, moduleOf, settingOf, unrankModules, unrankSettings};
-ghost use Rattle.order.specs.Asked.{LastAsked, RestoreAsked, UnrankAsked, WriteAsked};
-
-// The weights of 0 to n - 1 places.
-fn weights(n: usize, k: usize) -> [u64; MOST_SLOTS]
-    requires { ⌜ Permitted n k ⌝ }
-    ensures { λ r. ⌜ r ≡ front (λ m. weight m k) n (replicate mostSlots 0) ⌝ }
-{
-    let mut all = [0u64; MOST_SLOTS];
-    let mut weight: u64 = 1;
-    let mut m = 0;
-    while m < n {
-        all[m] = weight;
-        m += 1;
-        weight *= (k * m) as u64;
-    }
-    all
-}
-
-// How often a part fits into a whole, and what is left.
-struct Fitted {
-    times: u64,
-    rest: u64,
-}
-
-// By subtraction: where it is called, the part fits a few times at the most.
-fn fit(part: u64, whole: u64) -> Fitted
-    requires { ⌜ 1 ≤ part ⌝ }
-    ensures { λ r. ⌜ (r .times ≡ whole / part) × (r .rest ≡ whole % part) ⌝ }
-{
-    let mut times = 0;
-    let mut rest = whole;
-    while part <= rest {
-        rest -= part;
-        times += 1;
-    }
-    Fitted { times, rest }
-}
-
-// The cell in the last of n slots, and the rank of the slots before it.
-struct Last {
-    v: u8,
-    c: u8,
-    rest: u64,
-}
-
-// The last digit of a rank taken off. `weight` is that of n - 1 places.
-fn take_last(n: usize, k: usize, rank: u64, weight: u64) -> Last
-    requires { ⌜ LastAsked n k rank weight ⌝ }
-    ensures { λ r. ⌜ (r .v ≡ moduleOf n (rank / weight)) × (r .c ≡ settingOf n (rank / weight)) × (r .rest ≡ rank % weight) ⌝ }
-{
-    let by_setting = fit((n as u64) * weight, rank);
-    let by_module = fit(weight, by_setting.rest);
-    Last {
-        v: (n as u64 - by_module.times) as u8,
-        c: by_setting.times as u8,
-        rest: by_module.rest,
-    }
-}
+ghost use Prim.Native.Nat.{suc, _+_, _/_, _%_, _≤_, _<_};
+ghost use lib.ListN.{set};
+ghost use Rattle.rows.specs.Row.{at, row};
+ghost use Rattle.rows.specs.Search.{ifLt};
+ghost use Rattle.sizes.specs.Sizes.{weight, mostSlots, mostSettings};
+ghost use Rattle.arrangement.specs.Copy.{wide};
+ghost use Rattle.order.specs.Rank.{raisedBy, restoredModule, restoredSetting, unrankModules, unrankSettings};
+ghost use Rattle.order.specs.Asked.{RestoreAsked, UnrankAsked, Unranked, WriteAsked};
 
 // A setting raised by d: a comparison does what a remainder would.
 fn raise(k: u8, setting: u8, d: u8) -> u8
@@ -79,105 +23,88 @@ fn raise(k: u8, setting: u8, d: u8) -> u8
 
 // The renaming of module x undone, with v:c in the last of n slots.
 fn restore_module(n: u8, v: u8, x: u8) -> u8
-    requires { ⌜ (n ≤ mostSlots) × (v ≤ n) × (x ≤ n) ⌝ }
+    requires { ⌜ (n ≤ mostSlots) × (v ≤ n) × (x ≤ mostSlots) ⌝ }
     ensures { λ r. ⌜ r ≡ restoredModule n v x ⌝ }
 {
     let up = v + x;
     if n < up { up - n } else { up }
 }
 
+// By how much the setting of module x was lowered.
+fn up_again(n: u8, v: u8, c: u8, x: u8) -> u8
+    requires { ⌜ (v ≤ mostSlots) × (x ≤ mostSlots) × (c < mostSettings) ⌝ }
+    ensures { λ r. ⌜ r ≡ ifLt n (v + x) c (suc c) ⌝ }
+{
+    if n < v + x { c } else { c + 1 }
+}
+
 // The setting of module x as it was.
 fn restore_setting(n: u8, k: u8, v: u8, c: u8, x: u8, setting: u8) -> u8
-    requires { ⌜ (n ≤ mostSlots) × (v ≤ n) × (x ≤ n) × (setting < k) × (c < k) × (k ≤ mostSettings) ⌝ }
+    requires { ⌜ (n ≤ mostSlots) × (v ≤ n) × (x ≤ mostSlots) × (setting < k) × (c < k) × (k ≤ mostSettings) ⌝ }
     ensures { λ r. ⌜ r ≡ restoredSetting n k v c x setting ⌝ }
 {
-    if n < v + x {
-        raise(k, setting, c)
-    } else {
-        raise(k, setting, c + 1)
-    }
+    raise(k, setting, up_again(n, v, c, x))
 }
 
-// The first m slots restored, and v:c in the last of m + 1.
-fn restore(
-    m: usize,
-    k: usize,
-    v: u8,
-    c: u8,
-    modules: [u8; MOST_SLOTS],
-    settings: [u8; MOST_SLOTS],
-) -> Slots
-    requires { ⌜ RestoreAsked m k v c modules settings ⌝ }
-    ensures { λ r. ⌜ r .modules ≡ front (restoredModules m v (at modules)) (m + 1) (replicate mostSlots 0) ⌝ }
-    ensures { λ r. ⌜ r .settings ≡ front (restoredSettings m k v c (at modules) (at settings)) (m + 1) (replicate mostSlots 0) ⌝ }
+// Undoes the renaming of the first m slots, and puts v:c in the last of m + 1. What stands behind is
+// restored too, and is written over later: a loop over all places is the faster one.
+fn restore(m: usize, k: usize, v: u8, c: u8, modules: &mut [u8; WIDE], settings: &mut [u8; WIDE])
+    requires { ⌜ RestoreAsked m k v c (now modules) (now settings) ⌝ }
+    ensures { λ _. ⌜ now (modules .exit) ≡ set (row (λ i. restoredModule (suc m) v (at (now (modules .entry)) i)) wide) m v ⌝ }
+    ensures { λ _. ⌜ now (settings .exit) ≡ set (row (λ i. restoredSetting (suc m) k v c (at (now (modules .entry)) i) (at (now (settings .entry)) i)) wide) m c ⌝ }
 {
-    let mut restored_modules = [0u8; MOST_SLOTS];
-    let mut restored_settings = [0u8; MOST_SLOTS];
     let n = (m + 1) as u8;
+    let most = k as u8;
     let mut i = 0;
-    while i < m {
+    while i < WIDE {
         let x = modules[i];
-        restored_modules[i] = restore_module(n, v, x);
-        restored_settings[i] = restore_setting(n, k as u8, v, c, x, settings[i]);
+        modules[i] = restore_module(n, v, x);
+        settings[i] = restore_setting(n, most, v, c, x, settings[i]);
         i += 1;
     }
-    restored_modules[m] = v;
-    restored_settings[m] = c;
-    Slots {
-        modules: restored_modules,
-        settings: restored_settings,
-    }
+    modules[m] = v;
+    settings[m] = c;
 }
 
-// The one slot of a rank of one slot.
-fn single(k: usize, rank: u64) -> Slots
-    requires { ⌜ (rank < k) × (k ≤ mostSettings) ⌝ }
-    ensures { λ r. ⌜ r .modules ≡ front (unrankModules 1 k rank) 1 (replicate mostSlots 0) ⌝ }
-    ensures { λ r. ⌜ r .settings ≡ front (unrankSettings 1 k rank) 1 (replicate mostSlots 0) ⌝ }
+// The slots of the first n digits of a rank, and the rank without them.
+fn unrank_slots(
+    n: usize,
+    k: usize,
+    rank: u64,
+    modules: &mut [u8; WIDE],
+    settings: &mut [u8; WIDE],
+) -> u64
+    requires { ⌜ UnrankAsked n k (now modules) (now settings) ⌝ }
+    ensures { λ r. ⌜ r ≡ rank / weight n k ⌝ }
+    ensures { λ _. ⌜ Unranked n k rank (now (modules .exit)) (now (settings .exit)) ⌝ }
 {
-    let mut modules = [0u8; MOST_SLOTS];
-    let mut settings = [0u8; MOST_SLOTS];
-    modules[0] = 1;
-    settings[0] = rank as u8;
-    Slots { modules, settings }
-}
-
-// The slots of a rank. `weights` has those of 0 to n - 1 places.
-fn unrank_slots(n: usize, k: usize, rank: u64, weights: &[u64]) -> Slots
-    requires { ⌜ UnrankAsked n k rank (now weights) ⌝ }
-    ensures { λ r. ⌜ r .modules ≡ front (unrankModules n k rank) n (replicate mostSlots 0) ⌝ }
-    ensures { λ r. ⌜ r .settings ≡ front (unrankSettings n k rank) n (replicate mostSlots 0) ⌝ }
-{
-    if n == 1 {
-        return single(k, rank);
+    if n == 0 {
+        return rank;
     }
     let m = n - 1;
-    let last = take_last(n, k, rank, weights[m]);
-    let before = unrank_slots(m, k, last.rest, weights);
-    let modules = before.modules;
-    let settings = before.settings;
-    restore(m, k, last.v, last.c, modules, settings)
+    let above = unrank_slots(m, k, rank, modules, settings);
+    let base = (k * n) as u64;
+    let digit = (above % base) as usize;
+    restore(
+        m,
+        k,
+        (n - digit % n) as u8,
+        (digit / n) as u8,
+        modules,
+        settings,
+    );
+    above / base
 }
 
-// The arrangement of a rank that has been checked.
-pub fn unrank(n: usize, k: usize, rank: u64) -> Slots
-    requires { ⌜ Permitted n k × (rank < weight n k) ⌝ }
-    ensures { λ r. ⌜ r .modules ≡ front (unrankModules n k rank) n (replicate mostSlots 0) ⌝ }
-    ensures { λ r. ⌜ r .settings ≡ front (unrankSettings n k rank) n (replicate mostSlots 0) ⌝ }
-{
-    let all = weights(n, k);
-    unrank_slots(n, k, rank, &all)
-}
-
-// The same, written into two rows of n bytes.
+// Writes the arrangement of a rank that has been checked into two rows of n bytes.
 pub fn write(n: usize, k: usize, rank: u64, modules: &mut [u8], settings: &mut [u8])
     requires { ⌜ WriteAsked n k rank (now modules) (now settings) ⌝ }
     ensures { λ _. ⌜ now (modules .exit) ≡ row (unrankModules n k rank) n ⌝ }
     ensures { λ _. ⌜ now (settings .exit) ≡ row (unrankSettings n k rank) n ⌝ }
 {
-    let slots = unrank(n, k, rank);
-    let new_modules = slots.modules;
-    let new_settings = slots.settings;
+    let mut new_modules = [0u8; WIDE];
+    let mut new_settings = [0u8; WIDE];
+    unrank_slots(n, k, rank, &mut new_modules, &mut new_settings);
     copy::store(n, new_modules, modules);
     copy::store(n, new_settings, settings);
 }

@@ -46,6 +46,10 @@ pub if-ge : {a b : ℕ} (x y : ℕ) → b ≤ a → ifLt a b x y ≡ y
 unfolding ifLt
 if-ge {a} {b} x y h = rw (le-ltb a b h)
 
+-- either way it is at most what both are
+pub if-le : (a b : ℕ) {x y z : ℕ} → x ≤ z → y ≤ z → ifLt a b x y ≤ z
+if-le a b {x} {y} hx hy = by-lt a b (λ l. omega (arith, if-lt x y l)) (λ l. omega (arith, if-ge {a = a} {b = b} x y l))
+
 -- ---- a range
 
 pub below-range : (lo hi x : ℕ) → x < lo → outside lo hi x ≡ true

@@ -6,8 +6,8 @@ use Prim.Native.Nat.{ℕ, zero, suc, _+_, _-_, _<_, _≤_}
 use native.Mathlib.Nat.{not-suc-le-zero, le-refl}
 use native.Mathlib.Numerals.{add-one}
 use native.Mathlib.Omega.{arith}
-use lib.ListN.{length, getD, set, drop, length-append, length-drop, List·getD-append}
-use lib.Seq.{drop-cons, set-at, getD-at, getD-append-add, getD-drop, ext-getD}
+use lib.ListN.{length, getD, set, drop, length-append, length-drop, length-set, List·getD-append}
+use lib.Seq.{drop-cons, set-at, getD-at, getD-append-add, getD-drop, getD-set-same, getD-set-other, ext-getD}
 use Rattle.rows.specs.Row.{at, row, front}
 use Rattle.rows.proofs.Cases.{by-last, by-lt}
 
@@ -103,3 +103,28 @@ written-back f n zs xs copy-is ys-is h behind =
 pub written-over : (f : ℕ → ℕ) (n : ℕ) (zs xs : List ℕ) {copy ys : List ℕ} → copy ≡ front f n zs → ys ≡ front (at copy) n xs → length xs ≡ n → ys ≡ row f n
 written-over f n zs xs copy-is ys-is same =
     written-back f n zs xs copy-is ys-is (omega arith) (λ i l m. absurd (omega arith)) ∙ ap (row f) same
+
+-- ---- a loop that writes a list anew, place by place
+
+-- what it has not come to is as it was
+pub unread : (f : ℕ → ℕ) (n : ℕ) (xs : List ℕ) (i : ℕ) {ys : List ℕ} → ys ≡ front f n xs → n ≤ i → at ys i ≡ at xs i
+unread f n xs i e h = rw e (at-behind f n xs i h)
+
+-- and in the end it is a row
+pub rewritten : (f : ℕ → ℕ) (n i : ℕ) (xs : List ℕ) {ys : List ℕ} → ys ≡ front f i xs → i ≡ n → length xs ≡ n → ys ≡ row f n
+rewritten f n i xs e all same =
+    e ∙ ap (λ j. front f j xs) all ∙ front-row f n xs (omega arith) (λ i l m. absurd (omega arith)) ∙ ap (row f) same
+
+-- ---- a row with one place written over
+
+pub record Placed (f : ℕ → ℕ) (n m x : ℕ) (ys : List ℕ) : Type 0 where
+  pub here : at ys m ≡ x
+  pub elsewhere : (i : ℕ) → i < n → (i ≡ m → ⊥) → at ys i ≡ f i
+  pub as-long : length ys ≡ n
+
+pub placed : (f : ℕ → ℕ) (n m x : ℕ) {ys : List ℕ} → ys ≡ set (row f n) m x → m < n → Placed f n m x ys
+placed f n m x e h = record {
+  here = ap (λ ys. at ys m) e ∙ getD-set-same (row f n) m x 0 (omega (arith, length-row f n));
+  elsewhere = λ i l ne. ap (λ ys. at ys i) e ∙ getD-set-other (row f n) m i x 0 ne ∙ at-row f n i l;
+  as-long = ap length e ∙ length-set (row f n) m x ∙ length-row f n;
+}

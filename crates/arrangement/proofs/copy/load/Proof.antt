@@ -3,16 +3,16 @@
 use Prim.Native.Nat.{_-_, _≤_}
 use mathlib.Core.Path.{_≡_, refl, _∙_}
 use native.Mathlib.Omega.{arith}
-use lib.ListN.{length, replicate}
+use lib.ListN.{length}
 use borrow.Author.Needs.{needs}
 use Rattle.rows.specs.Row.{at, front}
 use Rattle.rows.proofs.Rows.{begun, stored}
-use Rattle.sizes.specs.Sizes.{mostSlots}
+use Rattle.arrangement.specs.Copy.{blank}
 use Rattle.arrangement.proofs.copy.load.Statement.{statement}
 use Rattle.arrangement.proofs.copy.load.Tie as tie
 
 abbrev Inv-loop : tie.InvT-loop
-Inv-loop slots copy₀ i₀ copy i = (i ≤ length slots) × (copy ≡ front (at slots) i (replicate mostSlots 0))
+Inv-loop slots copy₀ i₀ copy i = (i ≤ length slots) × (copy ≡ front (at slots) i blank)
 
 abbrev μ-loop : tie.MeasureT-loop
 μ-loop slots copy₀ i₀ copy i = length slots - i

@@ -3,10 +3,9 @@
 use Prim.Native.Nat.{_-_, _≤_}
 use mathlib.Core.Path.{_≡_, sym, _∙_}
 use native.Mathlib.Omega.{arith}
-use lib.ListN.{replicate}
 use Rattle.rows.specs.Row.{at, front}
 use Rattle.rows.proofs.Rows.{begun, stored}
-use Rattle.sizes.specs.Sizes.{mostSlots}
+use Rattle.arrangement.specs.Copy.{blank}
 use Rattle.arrangement.specs.Flip.{flippedModules, flippedSettings}
 use Rattle.arrangement.proofs.Flips.{module-front, setting-front}
 use borrow.Author.Needs.{needs}
@@ -16,8 +15,8 @@ use Rattle.arrangement.proofs.flip.turn.Tie as tie
 abbrev Inv-loop : tie.InvT-loop
 Inv-loop k j modules settings turned-modules₀ turned-settings₀ i₀ turned-modules turned-settings i =
     (i ≤ j) ×
-    (turned-modules ≡ front (flippedModules j (at modules)) i (replicate mostSlots 0)) ×
-    (turned-settings ≡ front (flippedSettings k j (at settings)) i (replicate mostSlots 0))
+    (turned-modules ≡ front (flippedModules j (at modules)) i blank) ×
+    (turned-settings ≡ front (flippedSettings k j (at settings)) i blank)
 
 abbrev μ-loop : tie.MeasureT-loop
 μ-loop k j modules settings turned-modules₀ turned-settings₀ i₀ turned-modules turned-settings i =

@@ -1,27 +1,23 @@
--- `order::rank::rename_setting` meets its contract: each branch is a case of the definition. Assumes nothing.
-use mathlib.Core.Path.{sym, ap, _∙_}
-use native.Mathlib.Numerals.{add-one}
-use Rattle.order.specs.Rank.{loweredBy}
-use Rattle.order.proofs.Renaming.{setting-above, setting-below}
+-- `order::rank::rename_setting` meets its contract: it is the definition. Assumes nothing.
+use mathlib.Core.Path.{ap, _∙_}
+use native.Mathlib.Omega.{arith}
+use Rattle.rows.proofs.Cases.{if-le}
+use Rattle.order.specs.Rank.{loweredBy, renamedSetting}
 use borrow.Author.Needs.{needs}
 use Rattle.order.proofs.rank.rename_setting.Statement.{statement}
 use Rattle.order.proofs.rank.rename_setting.Tie as tie
 
-add-lower : tie.Need-add-lower
-add-lower c = search needs
+down-requires : tie.Need-down-requires
+down-requires c κs = search needs
 
 lower-requires : tie.Need-lower-requires
-lower-requires c κs = search needs
-
-lower-requires-2 : tie.Need-lower-requires-2
-lower-requires-2 c κs = search needs
+lower-requires c κs =
+    let by = c .before .pre .1 in
+    (c .before .pre .0, rw (c .down .ensures) (if-le _ _ by (omega arith)), c .before .pre .2)
 
 returns : tie.Need-returns
-returns c = c .lower .ensures ∙ ap (loweredBy _ _) (add-one _) ∙ sym (setting-above _ _ _ _ _ (c .before .if1 .taken))
-
-returns-2 : tie.Need-returns-2
-returns-2 c = c .lower2 .ensures ∙ sym (setting-below _ _ _ _ _ (c .before .if1 .left))
+unfolding renamedSetting
+returns c = c .lower .ensures ∙ ap (loweredBy _ _) (c .before .down .ensures)
 
 pub rename-setting-spec : {M : Type 1} → statement M
-rename-setting-spec =
-    tie.close (tie.spec add-lower lower-requires lower-requires-2 returns returns-2)
+rename-setting-spec = tie.close (tie.spec down-requires lower-requires returns)

@@ -1,29 +1,27 @@
--- `order::unrank::restore` meets its contract. The loop's invariant: the first i slots are restored, and the rest are 0. The
--- measure is m less i; v:c comes behind the m slots when the loop is done. Assumes nothing.
-use Prim.Native.Nat.{_-_, _≤_}
-use mathlib.Core.Path.{_≡_, sym, _∙_}
+-- `order::unrank::restore` meets its contract. The loop's invariant: the first i places are restored, and the rest are as they
+-- were. The measure is the number of places left. Assumes nothing.
+use Prim.Native.Nat.{suc, _-_, _≤_}
+use mathlib.Core.Path.{_≡_, ap}
 use native.Mathlib.Nat.{le-refl}
-use native.Mathlib.Numerals.{add-one}
 use native.Mathlib.Omega.{arith}
-use lib.ListN.{replicate}
+use lib.ListN.{set}
 use Rattle.rows.specs.Row.{at, front}
-use Rattle.rows.proofs.Cases.{if-lt, if-ge}
-use Rattle.rows.proofs.Rows.{begun, stored}
-use Rattle.sizes.specs.Sizes.{mostSlots}
-use Rattle.order.specs.Rank.{restoredModules, restoredSettings}
+use Rattle.rows.proofs.Rows.{begun, stored, unread, rewritten}
+use Rattle.arrangement.specs.Copy.{wide}
+use Rattle.order.specs.Rank.{restoredModule, restoredSetting}
+use Rattle.order.proofs.Renaming.{module-restored, setting-restored}
 use borrow.Author.Needs.{needs}
 use Rattle.order.proofs.unrank.restore.Statement.{statement}
 use Rattle.order.proofs.unrank.restore.Tie as tie
 
 abbrev Inv-loop : tie.InvT-loop
-Inv-loop m k v c modules settings restored-modules₀ restored-settings₀ n i₀ restored-modules restored-settings i =
-    (i ≤ m) ×
-    (restored-modules ≡ front (restoredModules m v (at modules)) i (replicate mostSlots 0)) ×
-    (restored-settings ≡ front (restoredSettings m k v c (at modules) (at settings)) i (replicate mostSlots 0))
+Inv-loop m k v c modules₀ settings₀ n most i₀ modules settings i =
+    (i ≤ wide) ×
+    (modules ≡ front (λ i. restoredModule (suc m) v (at modules₀ i)) i modules₀) ×
+    (settings ≡ front (λ i. restoredSetting (suc m) k v c (at modules₀ i) (at settings₀ i)) i settings₀)
 
 abbrev μ-loop : tie.MeasureT-loop
-μ-loop m k v c modules settings restored-modules₀ restored-settings₀ n i₀ restored-modules restored-settings i =
-    m - i
+μ-loop m k v c modules₀ settings₀ n most i₀ modules settings i = wide - i
 
 add-n : tie.Need-add-n Inv-loop μ-loop
 add-n c = search needs
@@ -31,33 +29,41 @@ add-n c = search needs
 cast-n : tie.Need-cast-n Inv-loop μ-loop
 cast-n c = search needs
 
+cast-most : tie.Need-cast-most Inv-loop μ-loop
+cast-most c = search needs
+
 loop-holds : tie.Need-loop-holds Inv-loop μ-loop
 loop-holds c = (search needs, begun _ _, begun _ _)
 
-array-read-x : tie.Need-array-read-x Inv-loop μ-loop
-array-read-x c = search needs
+element-copy-out-x : tie.Need-element-copy-out-x Inv-loop μ-loop
+element-copy-out-x c = search needs
 
 restore-module-requires : tie.Need-restore-module-requires Inv-loop μ-loop
 restore-module-requires c κs =
-    let start = c .before .before in
-    let in-slot = start .pre .valid .cell (c .before .loop .i) (omega arith) in omega arith
+    let loop = c .before .before in
+    let start = loop .before in
+    let low = start .pre .bounded .modules-low (loop .loop .i) (omega arith) in
+    let same = unread _ _ _ (loop .loop .i) (loop .loop .inv .1) (le-refl _) in
+    omega (arith, start .pre .cell, start .pre .m-high)
 
-array-write-restored-modules : tie.Need-array-write-restored-modules Inv-loop μ-loop
-array-write-restored-modules c = search needs
+element-write-modules : tie.Need-element-write-modules Inv-loop μ-loop
+element-write-modules c = search needs
 
-cast-restore-setting : tie.Need-cast-restore-setting Inv-loop μ-loop
-cast-restore-setting c = search needs
-
-array-read-restore-setting : tie.Need-array-read-restore-setting Inv-loop μ-loop
-array-read-restore-setting c = search needs
+element-copy-out-restore-setting : tie.Need-element-copy-out-restore-setting Inv-loop μ-loop
+element-copy-out-restore-setting c = search needs
 
 restore-setting-requires : tie.Need-restore-setting-requires Inv-loop μ-loop
 restore-setting-requires c κs =
-    let start = c .before .before .before in
-    let in-slot = start .pre .valid .cell (c .before .before .loop .i) (omega arith) in omega arith
+    let loop = c .before .before .before .before in
+    let start = loop .before in
+    let module-low = start .pre .bounded .modules-low (loop .loop .i) (omega arith) in
+    let setting-low = start .pre .bounded .settings-low (loop .loop .i) (omega arith) in
+    let module-was = unread _ _ _ (loop .loop .i) (loop .loop .inv .1) (le-refl _) in
+    let setting-was = unread _ _ _ (loop .loop .i) (loop .loop .inv .2) (le-refl _) in
+    omega (arith, start .pre .cell, start .pre .m-high, start .pre .k-high)
 
-array-write-restored-settings : tie.Need-array-write-restored-settings Inv-loop μ-loop
-array-write-restored-settings c = search needs
+element-write-settings : tie.Need-element-write-settings Inv-loop μ-loop
+element-write-settings c = search needs
 
 add-i : tie.Need-add-i Inv-loop μ-loop
 add-i c = search needs
@@ -67,26 +73,31 @@ loop-less c = search needs
 
 loop-again : tie.Need-loop-again Inv-loop μ-loop
 loop-again c =
-    let inv = c .before .before .before .loop .inv in
-    let in-front = c .before .before .loop-test .taken in (
+    let loop = c .before .before .before .before .before in
+    let start = loop .before in
+    let rows = start .pre .bounded in
+    let M = at (start .args .modules .now) in
+    let S = at (start .args .settings .now) in
+    let module-was = unread _ _ _ (loop .loop .i) (loop .loop .inv .1) (le-refl _) in
+    let setting-was = unread _ _ _ (loop .loop .i) (loop .loop .inv .2) (le-refl _) in (
       search needs,
-      stored _ _ _ (inv .1) (omega arith) ((rw add-one at (c .before .restore-module .ensures)) ∙ sym (if-lt _ _ in-front)),
-      stored _ _ _ (inv .2) (omega arith) ((rw add-one at (c .restore-setting .ensures)) ∙ sym (if-lt _ _ in-front)),
+      stored _ _ _ (loop .loop .inv .1) (omega (arith, rows .modules-wide)) (module-restored _ (start .args .k) M S _ module-was _ (c .before .before .restore-module .ensures)),
+      stored _ _ _ (loop .loop .inv .2) (omega (arith, rows .settings-wide)) (setting-restored _ _ M S _ module-was _ _ setting-was (c .restore-setting .ensures)),
     )
 
-array-write-restored-modules-2 : tie.Need-array-write-restored-modules-2 Inv-loop μ-loop
-array-write-restored-modules-2 c = search needs
+element-write-modules-2 : tie.Need-element-write-modules-2 Inv-loop μ-loop
+element-write-modules-2 c = search needs
 
-array-write-restored-settings-2 : tie.Need-array-write-restored-settings-2 Inv-loop μ-loop
-array-write-restored-settings-2 c = search needs
+element-write-settings-2 : tie.Need-element-write-settings-2 Inv-loop μ-loop
+element-write-settings-2 c = search needs
 
 returns : tie.Need-returns Inv-loop μ-loop
 returns c =
-    let m = c .before .before .args .m in
-    let e : c .before .loop .i ≡ m = omega arith in
-    let inv = c .before .loop .inv in (
-      stored _ m _ (inv .1 ∙ rw e) (omega arith) (sym (if-ge _ _ (le-refl m))),
-      stored _ m _ (inv .2 ∙ rw e) (omega arith) (sym (if-ge _ _ (le-refl m))),
+    let start = c .before .before in
+    let rows = start .pre .bounded in
+    let all : c .before .loop .i ≡ wide = omega arith in (
+      ap (λ xs. set xs (start .args .m) (start .args .v)) (rewritten _ _ _ _ (c .before .loop .inv .1) all (rows .modules-wide)),
+      ap (λ xs. set xs (start .args .m) (start .args .c)) (rewritten _ _ _ _ (c .before .loop .inv .2) all (rows .settings-wide)),
     )
 
 pub restore-spec : {M : Type 1} → statement M
@@ -97,17 +108,17 @@ restore-spec =
     μ-loop
     add-n
     cast-n
+    cast-most
     loop-holds
-    array-read-x
+    element-copy-out-x
     restore-module-requires
-    array-write-restored-modules
-    cast-restore-setting
-    array-read-restore-setting
+    element-write-modules
+    element-copy-out-restore-setting
     restore-setting-requires
-    array-write-restored-settings
+    element-write-settings
     add-i
     loop-less
     loop-again
-    array-write-restored-modules-2
-    array-write-restored-settings-2
+    element-write-modules-2
+    element-write-settings-2
     returns)

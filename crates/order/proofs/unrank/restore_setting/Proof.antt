@@ -1,30 +1,23 @@
--- `order::unrank::restore_setting` meets its contract: each branch is a case of the definition. Assumes nothing.
-use mathlib.Core.Path.{sym, ap, _∙_}
-use native.Mathlib.Numerals.{add-one}
-use Rattle.order.specs.Rank.{raisedBy}
-use Rattle.order.proofs.Renaming.{restored-setting-above, restored-setting-below}
+-- `order::unrank::restore_setting` meets its contract: it is the definition. Assumes nothing.
+use mathlib.Core.Path.{ap, _∙_}
+use native.Mathlib.Omega.{arith}
+use Rattle.rows.proofs.Cases.{if-le}
+use Rattle.order.specs.Rank.{raisedBy, restoredSetting}
 use borrow.Author.Needs.{needs}
 use Rattle.order.proofs.unrank.restore_setting.Statement.{statement}
 use Rattle.order.proofs.unrank.restore_setting.Tie as tie
 
-add-if1 : tie.Need-add-if1
-add-if1 c = search needs
+up-again-requires : tie.Need-up-again-requires
+up-again-requires c κs = search needs
 
 raise-requires : tie.Need-raise-requires
-raise-requires c κs = search needs
-
-add-raise : tie.Need-add-raise
-add-raise c = search needs
-
-raise-requires-2 : tie.Need-raise-requires-2
-raise-requires-2 c κs = search needs
+raise-requires c κs =
+    let by = c .before .pre .4 in
+    (c .before .pre .3, rw (c .up-again .ensures) (if-le _ _ (omega arith) by), c .before .pre .5)
 
 returns : tie.Need-returns
-returns c = c .raise .ensures ∙ sym (restored-setting-below _ _ _ _ _ _ (c .before .if1 .taken))
-
-returns-2 : tie.Need-returns-2
-returns-2 c = c .raise2 .ensures ∙ ap (raisedBy _ _) (add-one _) ∙ sym (restored-setting-above _ _ _ _ _ _ (c .before .if1 .left))
+unfolding restoredSetting
+returns c = c .raise .ensures ∙ ap (raisedBy _ _) (c .before .up-again .ensures)
 
 pub restore-setting-spec : {M : Type 1} → statement M
-restore-setting-spec =
-    tie.close (tie.spec add-if1 raise-requires add-raise raise-requires-2 returns returns-2)
+restore-setting-spec = tie.close (tie.spec up-again-requires raise-requires returns)

@@ -1,11 +1,11 @@
 -- `order::unrank::write` meets its contract: the slots of the rank are stored over all n places of both rows. Assumes nothing.
-use Rattle.rows.proofs.Rows.{written-over}
+use Rattle.order.proofs.Recursion.{blank-asked, modules-stored, settings-stored}
 use borrow.Author.Needs.{needs}
 use Rattle.order.proofs.unrank.write.Statement.{statement}
 use Rattle.order.proofs.unrank.write.Tie as tie
 
-unrank-requires : tie.Need-unrank-requires
-unrank-requires c κs = search needs
+unrank-slots-requires : tie.Need-unrank-slots-requires
+unrank-slots-requires c κs = blank-asked (c .before .before .before .before .pre .sizes)
 
 store-requires : tie.Need-store-requires
 store-requires c κs = search needs
@@ -22,13 +22,19 @@ same-length-2 c = search needs
 returns : tie.Need-returns
 returns c =
     let first = c .before .before .before .before .before .before in
-    let slots = first .before .before .before .before .unrank .ensures in
+    let slots = first .before .before .unrank-slots .ensures .1 in
     let asked = first .before .before .before .before .before .before .before .pre in (
-      written-over _ _ _ _ (slots .0) (first .store .ensures) (asked .modules),
-      written-over _ _ _ _ (slots .1) (c .before .before .store2 .ensures) (asked .settings),
+      modules-stored (asked .rank) slots _ (asked .modules) (first .store .ensures),
+      settings-stored (asked .rank) slots _ (asked .settings) (c .before .before .store2 .ensures),
     )
 
 pub write-spec : {M : Type 1} → statement M
 write-spec =
     tie.close
-    (tie.spec unrank-requires store-requires store-requires-2 same-length same-length-2 returns)
+    (tie.spec
+    unrank-slots-requires
+    store-requires
+    store-requires-2
+    same-length
+    same-length-2
+    returns)
