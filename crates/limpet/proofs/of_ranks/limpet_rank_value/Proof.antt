@@ -3,8 +3,8 @@ use Rattle.order.proofs.Checks.{lent-asked}
 use Rattle.sizes.proofs.Refusals.{was-fine, refused-number, done-number}
 use Rattle.limpet.specs.Calls.{rankValueReturns}
 use borrow.Author.Needs.{needs}
-use Rattle.limpet.proofs.limpet_rank_value.Statement.{statement}
-use Rattle.limpet.proofs.limpet_rank_value.Tie as tie
+use Rattle.limpet.proofs.of_ranks.limpet_rank_value.Statement.{statement}
+use Rattle.limpet.proofs.of_ranks.limpet_rank_value.Tie as tie
 
 judge-requires : tie.Need-judge-requires
 judge-requires c κs = search needs

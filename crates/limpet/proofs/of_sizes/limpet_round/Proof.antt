@@ -2,8 +2,8 @@
 use borrow.Author.Needs.{needs}
 use Rattle.limpet.specs.Calls.{roundReturns}
 use Rattle.limpet.proofs.Answers.{judged}
-use Rattle.limpet.proofs.limpet_round.Statement.{statement}
-use Rattle.limpet.proofs.limpet_round.Tie as tie
+use Rattle.limpet.proofs.of_sizes.limpet_round.Statement.{statement}
+use Rattle.limpet.proofs.of_sizes.limpet_round.Tie as tie
 
 judge-requires : tie.Need-judge-requires
 judge-requires c κs = search needs

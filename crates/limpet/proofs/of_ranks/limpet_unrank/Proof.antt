@@ -9,8 +9,8 @@ use Rattle.order.specs.Asked.{WriteAsked}
 use Rattle.order.proofs.Checks.{write-asked}
 use Rattle.limpet.specs.Calls.{unrankLeaves}
 use Rattle.limpet.proofs.Answers.{refused-leaves, done-leaves}
-use Rattle.limpet.proofs.limpet_unrank.Statement.{statement}
-use Rattle.limpet.proofs.limpet_unrank.Tie as tie
+use Rattle.limpet.proofs.of_ranks.limpet_unrank.Statement.{statement}
+use Rattle.limpet.proofs.of_ranks.limpet_unrank.Tie as tie
 
 judge-requires : tie.Need-judge-requires
 judge-requires c κs = search needs

@@ -3,8 +3,8 @@ use borrow.Author.Needs.{needs}
 use Rattle.sizes.proofs.Refusals.{was-fine, refused-number, done-number}
 use Rattle.sizes.proofs.Weights.{permitted}
 use Rattle.limpet.specs.Calls.{totalReturns}
-use Rattle.limpet.proofs.limpet_round_total.Statement.{statement}
-use Rattle.limpet.proofs.limpet_round_total.Tie as tie
+use Rattle.limpet.proofs.of_sizes.limpet_round_total.Statement.{statement}
+use Rattle.limpet.proofs.of_sizes.limpet_round_total.Tie as tie
 
 judge-requires : tie.Need-judge-requires
 judge-requires c κs = search needs

@@ -9,8 +9,8 @@ use Rattle.sizes.proofs.Refusals.{was-fine}
 use Rattle.arrangement.proofs.Validity.{flippable, flip-lengths}
 use Rattle.limpet.specs.Calls.{flipLeaves}
 use Rattle.limpet.proofs.Answers.{refused-leaves, done-leaves}
-use Rattle.limpet.proofs.limpet_flip.Statement.{statement}
-use Rattle.limpet.proofs.limpet_flip.Tie as tie
+use Rattle.limpet.proofs.of_arrangements.limpet_flip.Statement.{statement}
+use Rattle.limpet.proofs.of_arrangements.limpet_flip.Tie as tie
 
 judge-requires : tie.Need-judge-requires
 judge-requires c κs = search needs

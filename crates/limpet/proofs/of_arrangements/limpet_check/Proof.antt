@@ -2,8 +2,8 @@
 use borrow.Author.Needs.{needs}
 use Rattle.limpet.specs.Calls.{checkReturns}
 use Rattle.limpet.proofs.Answers.{judged}
-use Rattle.limpet.proofs.limpet_check.Statement.{statement}
-use Rattle.limpet.proofs.limpet_check.Tie as tie
+use Rattle.limpet.proofs.of_arrangements.limpet_check.Statement.{statement}
+use Rattle.limpet.proofs.of_arrangements.limpet_check.Tie as tie
 
 judge-requires : tie.Need-judge-requires
 judge-requires c κs = search needs

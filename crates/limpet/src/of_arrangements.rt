@@ -1,0 +1,29 @@
+// What C asks of an arrangement, and one flip of it.
+use crate::answer::pack;
+ghost use Rattle.limpet.specs.Answer.{Returns, Leaves};
+ghost use Rattle.limpet.specs.Calls.{checkReturns, flipLeaves};
+
+#[no_mangle]
+pub extern "C" fn limpet_check(n: usize, k: usize, modules: &[u8], settings: &[u8]) -> u64
+    ensures { λ r. ⌜ Returns (checkReturns n k (now (modules .entry)) (now (settings .entry))) r ⌝ }
+{
+    pack(arrangement::check::judge(n, k, modules, settings), 0)
+}
+
+#[no_mangle]
+pub extern "C" fn limpet_flip(
+    n: usize,
+    k: usize,
+    j: usize,
+    modules: &mut [u8],
+    settings: &mut [u8],
+) -> u64
+    ensures { λ r. ⌜ Leaves (flipLeaves n k j (now (modules .entry)) (now (settings .entry))) r (now (modules .exit)) (now (settings .exit)) ⌝ }
+{
+    let verdict = arrangement::flip::judge(n, k, j, modules, settings);
+    if verdict.refuses() {
+        return pack(verdict, 0);
+    }
+    arrangement::flip::flip(k, j, modules, settings);
+    pack(verdict, 0)
+}
