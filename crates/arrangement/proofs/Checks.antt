@@ -8,12 +8,16 @@ use native.Mathlib.Omega.{arith}
 use lib.Dec.{eqb}
 use lib.ListN.{length}
 use borrow.Author.Tests.{lt-ltb, eq-eqb, ne-eqb, le-leb, lt-leb}
+use Rattle.rows.specs.Row.{at}
 use Rattle.rows.specs.Search.{outside, lowest}
-use Rattle.rows.proofs.Cases.{by-lt, above-range, in-range}
-use Rattle.rows.proofs.Searches.{found, lowest-ext, lowest-le}
+use Rattle.rows.proofs.Cases.{by-lt, above-range, in-range, inside}
+use Rattle.rows.proofs.Searches.{found, lowest-ext, lowest-le, none-holds}
 use Rattle.sizes.specs.declared.Verdict.{Verdict}
+use Rattle.sizes.specs.declared.Verdict.the-variants.{Fine}
 use Rattle.sizes.specs.Refusal.{refusedAt}
-use Rattle.arrangement.specs.Check.{badModule, repeated, badSetting}
+use Rattle.sizes.specs.Sizes.{mostSlots}
+use Rattle.sizes.proofs.Refusals.{no-place}
+use Rattle.arrangement.specs.Check.{badModule, repeated, badSetting, Marked}
 
 -- ---- the length of a lent buffer
 
@@ -60,3 +64,12 @@ setting-place n k S low =
     (λ i h.
     by-lt (S i) k (λ l. in-range 0 (k - 1) (S i) (omega arith) (omega arith) ∙ sym (lt-leb k (S i) l))
     (λ l. above-range 0 (k - 1) (S i) (omega arith) (omega arith) ∙ sym (le-leb k (S i) l)))
+
+-- modules that 5 lets pass can be marked
+pub modules-marked : (n : ℕ) (ms : List ℕ) → n ≤ mostSlots → length ms ≡ n → refusedAt 5 (lowest (badModule n (at ms)) n) ≡ Fine → Marked ms
+unfolding badModule
+modules-marked n ms n-high same fine = record {
+  few = omega arith;
+  low = λ i h.
+      let range = inside 1 n (at ms i) (none-holds (badModule n (at ms)) n (no-place 5 _ fine) i (omega arith)) in omega (arith, range .1);
+}

@@ -1,6 +1,6 @@
 -- 01, "Numbers of refusal", 4 to 7: the check of an arrangement. Numbers 5, 6 and 7 are each tried over all slots before the
 -- next, and their place is the lowest bad slot, counted from 1.
-use Prim.Native.Nat.{ℕ}
+use Prim.Native.Nat.{ℕ, _≤_, _<_}
 use mathlib.Core.Bool.{Bool, not}
 use mathlib.Core.List.{List}
 use lib.Dec.{eqb, leb, ltb}
@@ -9,7 +9,8 @@ use Rattle.rows.specs.Row.{at}
 use Rattle.rows.specs.Search.{outside, lowest}
 use Rattle.sizes.specs.declared.Verdict.{Verdict}
 use Rattle.sizes.specs.Refusal.{first, refusedIf, refusedAt}
-use Rattle.sizes.specs.Sizes.{sizesVerdict}
+use Rattle.sizes.specs.Sizes.{sizesVerdict, mostSlots}
+use Rattle.arrangement.specs.Copy.{wide}
 
 -- 4: a lent buffer that should have n bytes hasn't
 unfoldable pub lengthVerdict : ℕ → List ℕ → Verdict
@@ -26,6 +27,11 @@ repeated M i = ltb 0 (lowest (λ h. eqb (M h) (M i)) i)
 -- 7: the setting in slot i is k or more
 unfoldable pub badSetting : ℕ → (ℕ → ℕ) → ℕ → Bool
 badSetting k S i = leb k (S i)
+
+-- a row of at most 20 modules that can each be marked in a row by value
+pub record Marked (ms : List ℕ) : Type 0 where
+  pub few : length ms ≤ mostSlots
+  pub low : (i : ℕ) → i < length ms → at ms i < wide
 
 -- 5, 6 and 7 over n slots
 unfoldable pub slotsVerdict : ℕ → ℕ → (ℕ → ℕ) → (ℕ → ℕ) → Verdict

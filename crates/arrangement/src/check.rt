@@ -1,14 +1,16 @@
 // The check of an arrangement. Each search answers the lowest bad slot, counted from 1, or 0 where
 // there is none.
+use crate::copy::WIDE;
 use sizes::Verdict;
 ghost use mathlib.Core.Path.{_≡_};
 ghost use Prim.Native.Nat.{_≤_};
+ghost use lib.Dec.{eqb};
 ghost use lib.ListN.{length};
 ghost use Rattle.rows.specs.Row.{at};
 ghost use Rattle.rows.specs.Search.{outside, lowest};
 ghost use Rattle.sizes.specs.Sizes.{mostSlots};
 ghost use Rattle.sizes.specs.Refusal.{refusedAt};
-ghost use Rattle.arrangement.specs.Check.{repeated, slotsVerdict, lentVerdict};
+ghost use Rattle.arrangement.specs.Check.{repeated, slotsVerdict, lentVerdict, Marked};
 
 // The lowest slot whose byte is below `low` or above `high`.
 fn first_outside(low: usize, high: usize, slots: &[u8]) -> usize
@@ -26,6 +28,23 @@ fn first_outside(low: usize, high: usize, slots: &[u8]) -> usize
         i += 1;
     }
     0
+}
+
+// Whether no module stands twice, by one pass with no branch, of modules below 32.
+fn none_twice(modules: &[u8]) -> bool
+    requires { ⌜ Marked (now modules) ⌝ }
+    ensures { λ r. ⌜ r ≡ eqb (lowest (repeated (at (now (modules .entry)))) (length (now (modules .entry)))) 0 ⌝ }
+{
+    let mut stands = [0u8; WIDE];
+    let mut twice = 0u8;
+    let mut i = 0;
+    while i < modules.len() {
+        let module = modules[i] as usize;
+        twice += stands[module];
+        stands[module] = 1;
+        i += 1;
+    }
+    twice == 0
 }
 
 // The lowest slot whose module already stands in a lower slot.
@@ -48,6 +67,17 @@ fn repeated_module(modules: &[u8]) -> usize
     found
 }
 
+// The same, of modules below 32: the slots are searched only where one stands twice.
+fn first_repeat(modules: &[u8]) -> usize
+    requires { ⌜ Marked (now modules) ⌝ }
+    ensures { λ r. ⌜ r ≡ lowest (repeated (at (now (modules .entry)))) (length (now (modules .entry))) ⌝ }
+{
+    if none_twice(modules) {
+        return 0;
+    }
+    repeated_module(modules)
+}
+
 // The verdict of a search for slots that the number refuses.
 fn refused_at(number: u8, place: usize) -> Verdict
     requires { ⌜ place ≤ mostSlots ⌝ }
@@ -68,7 +98,7 @@ pub fn judge_slots(n: usize, k: usize, modules: &[u8], settings: &[u8]) -> Verdi
     if module.refuses() {
         return module;
     }
-    let repeat = refused_at(6, repeated_module(modules));
+    let repeat = refused_at(6, first_repeat(modules));
     if repeat.refuses() {
         return repeat;
     }

@@ -9,7 +9,7 @@ use native.Mathlib.Omega.{arith}
 use lib.ListN.{length, getD, set, drop, length-append, length-drop, length-set, List·getD-append}
 use lib.Seq.{drop-cons, set-at, getD-at, getD-append-add, getD-drop, getD-set-same, getD-set-other, ext-getD}
 use Rattle.rows.specs.Row.{at, row, front}
-use Rattle.rows.proofs.Cases.{by-last, by-lt}
+use Rattle.rows.proofs.Cases.{by-last, by-lt, by-eq}
 
 -- ---- a row
 
@@ -128,3 +128,12 @@ placed f n m x e h = record {
   elsewhere = λ i l ne. ap (λ ys. at ys i) e ∙ getD-set-other (row f n) m i x 0 ne ∙ at-row f n i l;
   as-long = ap length e ∙ length-set (row f n) m x ∙ length-row f n;
 }
+
+-- it is a row again, of what differs there alone
+pub set-row : (f g : ℕ → ℕ) (n m x : ℕ) → m < n → x ≡ g m → ((i : ℕ) → i < n → (i ≡ m → ⊥) → f i ≡ g i) → set (row f n) m x ≡ row g n
+set-row f g n m x h here else =
+    let p = placed f n m x refl h in
+    ext-getD 0 (set (row f n) m x) (row g n) (p .as-long ∙ sym (length-row g n))
+    (λ i l.
+    let l' : i < n = omega (arith, p .as-long) in
+    by-eq i m (λ e. rw e (p .here ∙ here)) (λ ne. p .elsewhere i l' ne ∙ else i l' ne) ∙ sym (at-row g n i l'))

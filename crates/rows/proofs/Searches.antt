@@ -85,3 +85,23 @@ lowest-le test (suc n) =
     last : (b : Bool) → cond b (suc n) 0 ≤ suc n
     last true = omega arith
     last false = omega arith
+
+-- ---- whether there is one, with one slot more
+
+-- the test holds at the next slot
+pub holds-next : (test : ℕ → Bool) (i : ℕ) → test i ≡ true → 0 < lowest test (i + 1)
+unfolding lowest
+holds-next test i t = rw (add-one, lowest, t) (some (lowest test i))
+  where
+    some : (a : ℕ) → 0 < orElse a (suc i)
+    some zero = unfold orElse in omega arith
+    some (suc a) = unfold orElse in omega arith
+
+-- it does not
+pub same-next : (test : ℕ → Bool) (i : ℕ) → test i ≡ false → lowest test (i + 1) ≡ lowest test i
+unfolding lowest
+same-next test i f = rw (add-one, lowest, f) (none (lowest test i))
+  where
+    none : (a : ℕ) → orElse a 0 ≡ a
+    none zero = unfold orElse in refl
+    none (suc a) = unfold orElse in refl

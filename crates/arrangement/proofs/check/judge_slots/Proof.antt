@@ -6,9 +6,9 @@ use borrow.Author.Needs.{needs}
 use Rattle.rows.specs.Row.{at}
 use Rattle.rows.specs.Search.{lowest}
 use Rattle.sizes.specs.Refusal.{refusedAt}
-use Rattle.sizes.proofs.Refusals.{stops, goes-on}
+use Rattle.sizes.proofs.Refusals.{stops, goes-on, was-fine}
 use Rattle.arrangement.specs.Check.{badModule, repeated, badSetting, slotsVerdict}
-use Rattle.arrangement.proofs.Checks.{searched, place-le, module-place, setting-place}
+use Rattle.arrangement.proofs.Checks.{searched, place-le, module-place, setting-place, modules-marked}
 use Rattle.arrangement.proofs.check.judge_slots.Statement.{statement}
 use Rattle.arrangement.proofs.check.judge_slots.Tie as tie
 
@@ -31,7 +31,7 @@ six : (c : tie.After-refused-at2) →
     let start = c .before .before .before .before .before .before .before .before in
     c .refused-at2 .result ≡ refusedAt 6 (lowest (repeated (at (start .args .modules .now))) (start .args .n))
 six c =
-    searched 6 _ _ (c .before .before .before .before .before .before .before .before .pre .2) (c .refused-at2 .ensures) (c .before .repeated-module .ensures) refl
+    searched 6 _ _ (c .before .before .before .before .before .before .before .before .pre .2) (c .refused-at2 .ensures) (c .before .first-repeat .ensures) refl
 
 refuses-requires : tie.Need-refuses-requires
 refuses-requires c κs = search needs
@@ -40,13 +40,15 @@ returns : tie.Need-returns
 unfolding slotsVerdict
 returns c = stops _ (five (c .before .before)) (c .before .refuses .ensures) (c .if1 .taken)
 
-repeated-module-requires : tie.Need-repeated-module-requires
-repeated-module-requires c κs = search needs
+first-repeat-requires : tie.Need-first-repeat-requires
+first-repeat-requires c κs =
+    let asked = c .before .before .before .before .before .before .pre in
+    modules-marked _ _ (asked .0) (asked .2) (was-fine (five (c .before .before)) (c .before .refuses .ensures) (c .if1 .left))
 
 refused-at-requires-2 : tie.Need-refused-at-requires-2
 refused-at-requires-2 c κs =
     let start = c .before .before .before .before .before .before .before in
-    let p = place-le _ (start .pre .2) (c .repeated-module .ensures) in omega arith
+    let p = place-le _ (start .pre .2) (c .first-repeat .ensures) in omega arith
 
 refuses-requires-2 : tie.Need-refuses-requires-2
 refuses-requires-2 c κs = search needs
@@ -87,7 +89,7 @@ judge-slots-spec =
     refused-at-requires
     refuses-requires
     returns
-    repeated-module-requires
+    first-repeat-requires
     refused-at-requires-2
     refuses-requires-2
     returns-2
