@@ -29,7 +29,7 @@ pub fn judge(n: usize, k: usize, j: usize, modules: &[u8], settings: &[u8]) -> V
 }
 
 // A setting raised by one: a comparison does what a remainder would.
-fn raise(k: usize, setting: u8) -> u8
+pub fn raise(k: usize, setting: u8) -> u8
     requires { ⌜ (setting < k) × (k ≤ mostSettings) ⌝ }
     ensures { λ r. ⌜ r ≡ raised k setting ⌝ }
 {

@@ -1,9 +1,9 @@
 -- The laws of answers. A promise is made of equations, so two outcomes that keep it are equal; the number and the place of a
 -- verdict are below 256, so the three parts of the one number stand in bits of their own. Assumes nothing.
 use Prim.Native.Nat.{ℕ, _+_, _*_, _^_, _/_, _%_, _<_}
-use mathlib.Core.Path.{_≡_, refl, sym, _∙_, ap}
+use mathlib.Core.Path.{_≡_, refl, sym, _∙_, ap, ap₂}
 use mathlib.Core.Bool.{Bool, true, false}
-use mathlib.Core.List.{List}
+use mathlib.Core.List.{List, []}
 use native.Mathlib.Omega.{arith}
 use lib.Arith.{digits-div, digits-mod}
 use Rattle.sizes.specs.declared.Verdict.{Verdict}
@@ -59,9 +59,9 @@ told v value small = unpacked-packed (answerOf v value) (small .number) (small .
 
 -- ---- the calls
 
--- a call that only judges
-pub judged : {v check : Verdict} {r : ℕ} (value : ℕ) → v ≡ check → r ≡ packed (answerOf v value) → Returns (packed (answerOf check value)) r
-judged value v-is r-is = record { returned-is = r-is ∙ ap (λ w. packed (answerOf w value)) v-is }
+-- a call that writes nothing and packs the value x with the verdict v
+pub judged : {v check : Verdict} {r x value : ℕ} → v ≡ check → x ≡ value → r ≡ packed (answerOf v x) → Returns (packed (answerOf check value)) r
+judged v-is x-is r-is = record { returned-is = r-is ∙ ap₂ (λ (w : Verdict) (y : ℕ). packed (answerOf w y)) v-is x-is }
 
 -- a call that was refused, as t told: whatever value was packed with the verdict v, none shows
 pub refused-leaves : {v check : Verdict} {t : Bool} {r : ℕ} {a b : List ℕ} (value x : ℕ) (one two one-written two-written : List ℕ) →
@@ -72,6 +72,12 @@ refused-leaves {v = Fine} value x one two one-written two-written v-is t-is t-tr
     let n : _≡_ {A = ℕ} 0 1 = cc in absurd (omega arith)
 refused-leaves {v = Refused number place} value x one two one-written two-written v-is t-is t-true r-is a-is b-is =
     rw (← v-is) (record { returned-is = r-is; one-is = a-is; two-is = b-is })
+
+-- the same of a call that writes nothing
+pub refused-returns : {v check : Verdict} {t : Bool} {r : ℕ} (value x : ℕ) → v ≡ check → t ≡ refuses v → t ≡ true → r ≡ packed (answerOf v x) → Returns (packed (answerOf check value)) r
+unfolding outcome
+refused-returns value x v-is t-is t-true r-is =
+    record { returned-is = refused-leaves value x [] [] [] [] v-is t-is t-true r-is refl refl .returned-is }
 
 -- a call that was done
 pub done-leaves : {v check : Verdict} {t : Bool} {r : ℕ} {a b : List ℕ} (value : ℕ) (one two one-written two-written : List ℕ) →

@@ -8,6 +8,7 @@ use Rattle.arrangement.specs.Check.{lentVerdict}
 use Rattle.arrangement.specs.Flip.{flippedModules, flippedSettings, flipVerdict}
 use Rattle.order.specs.Check.{lentRankVerdict}
 use Rattle.order.specs.Rank.{rank, unrankModules, unrankSettings}
+use Rattle.look.specs.Look.{look}
 use Rattle.limpet.specs.Answer.{answerOf, packed, Outcome, outcome}
 
 -- limpet_round: the check of n and k
@@ -35,3 +36,13 @@ rankValueReturns n k ms ss = unlessRefused (lentVerdict n k ms ss) (rank n k (at
 unfoldable pub unrankLeaves : ℕ → ℕ → ℕ → List ℕ → List ℕ → Outcome
 unrankLeaves n k r ms ss =
     outcome (lentRankVerdict n k r n ms n ss) 0 ms ss (row (unrankModules n k r) n) (row (unrankSettings n k r) n)
+
+-- limpet_look: the length of the flip found by looking
+unfoldable pub lookReturns : ℕ → ℕ → List ℕ → List ℕ → ℕ
+lookReturns n k ms ss = packed (answerOf (lentVerdict n k ms ss) (look n k (at ms) (at ss)))
+
+-- limpet_next: that flip made, and its length
+unfoldable pub nextLeaves : ℕ → ℕ → List ℕ → List ℕ → Outcome
+nextLeaves n k ms ss =
+    outcome (lentVerdict n k ms ss) (look n k (at ms) (at ss)) ms ss
+    (row (flippedModules (look n k (at ms) (at ss)) (at ms)) n) (row (flippedSettings k (look n k (at ms) (at ss)) (at ss)) n)

@@ -1,4 +1,5 @@
 -- `limpet_check` keeps its promise: it packs the verdict of the arrangement. Assumes nothing.
+use mathlib.Core.Path.{refl}
 use borrow.Author.Needs.{needs}
 use Rattle.limpet.specs.Calls.{checkReturns}
 use Rattle.limpet.proofs.Answers.{judged}
@@ -13,7 +14,7 @@ pack-requires c κs = search needs
 
 returns : tie.Need-returns
 unfolding checkReturns
-returns c = judged 0 (c .before .judge .ensures) (c .pack .ensures)
+returns c = judged (c .before .judge .ensures) refl (c .pack .ensures)
 
 pub limpet-check-spec : {M : Type 1} → statement M
 limpet-check-spec = tie.close (tie.spec judge-requires pack-requires returns)

@@ -1,4 +1,5 @@
 -- `limpet_round` keeps its promise: it packs the verdict of the sizes. Assumes nothing.
+use mathlib.Core.Path.{refl}
 use borrow.Author.Needs.{needs}
 use Rattle.limpet.specs.Calls.{roundReturns}
 use Rattle.limpet.proofs.Answers.{judged}
@@ -13,7 +14,7 @@ pack-requires c κs = search needs
 
 returns : tie.Need-returns
 unfolding roundReturns
-returns c = judged 0 (c .before .judge .ensures) (c .pack .ensures)
+returns c = judged (c .before .judge .ensures) refl (c .pack .ensures)
 
 pub limpet-round-spec : {M : Type 1} → statement M
 limpet-round-spec = tie.close (tie.spec judge-requires pack-requires returns)
