@@ -67,6 +67,22 @@ struct asked random_rank(size_t n, size_t k)
     return with_random_rows(n, k, draw(total == 0 ? UINT64_MAX : total));
 }
 
+struct asked rank_with_full_digits(size_t n, size_t k, size_t full)
+{
+    const uint64_t weight = reference_round_total(full, k);
+    struct asked asked = random_rank(n, k);
+    asked.argument = (asked.argument / weight + 1) * weight - 1;
+    return asked;
+}
+
+size_t flip_out_of(size_t n, size_t k, uint64_t rank)
+{
+    for (size_t j = 1; j <= n; rank /= k * j, j++)
+        if (rank % (k * j) != k * j - 1)
+            return j;
+    return n;
+}
+
 void make_flip(struct asked *asked, size_t j)
 {
     const size_t n = asked->n;

@@ -4,6 +4,9 @@
 
 #include "test.h"
 
+/* A round of at most WHOLE arrangements is tried whole. */
+enum { WHOLE = 50000 };
+
 /* From slots as 01 writes them, "1:0 2:0"; n is their number. The argument is 1. */
 struct asked written(size_t k, const char *slots);
 
@@ -20,6 +23,12 @@ struct asked random_arrangement(size_t n, size_t k);
 
 /* A random rank as argument, any number where no T limits it, and random bytes to be written over. */
 struct asked random_rank(size_t n, size_t k);
+
+/* The same, and the lowest digits of the rank are full, as many of 1..n as named. */
+struct asked rank_with_full_digits(size_t n, size_t k, size_t full);
+
+/* 01: the length of the flip out of a rank, the smallest j whose digit isn't full, or n. */
+size_t flip_out_of(size_t n, size_t k, uint64_t rank);
 
 /* Makes the reference's flip of length j on an arrangement. */
 void make_flip(struct asked *asked, size_t j);

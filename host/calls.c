@@ -2,8 +2,10 @@
 #include "calls.h"
 
 #include "arrangements.h"
+#include "boards.h"
 #include "limpet.h"
 #include "reference.h"
+#include "reference_board.h"
 
 const struct call round_call = {.name = "round",
                                 .refusals = {1, 2, 3},
@@ -48,3 +50,29 @@ const struct call unrank_call = {.name = "unrank",
                                  .library.writing = limpet_unrank,
                                  .reference.writing = reference_unrank,
                                  .fair = random_rank};
+
+const struct call look_call = {.name = "look",
+                               .refusals = {1, 2, 3, 4, 5, 6, 7},
+                               .library.reading = limpet_look,
+                               .reference.reading = reference_look,
+                               .fair = random_arrangement};
+
+const struct call next_call = {.name = "next",
+                               .refusals = {1, 2, 3, 4, 5, 6, 7},
+                               .library.changing = limpet_next,
+                               .reference.changing = reference_next,
+                               .fair = random_arrangement};
+
+const struct call board_write_call = {.name = "board write",
+                                      .refusals = {1, 2, 3, 4, 8},
+                                      .library.writing = limpet_board_write,
+                                      .reference.writing = reference_board_write,
+                                      .fair = random_rank_of_board,
+                                      .longer = {[POINTERS] = 1}};
+
+const struct call board_step_call = {.name = "board step",
+                                     .refusals = {1, 2, 3, 4, 10},
+                                     .library.changing = limpet_board_step,
+                                     .reference.changing = reference_board_step,
+                                     .fair = random_board,
+                                     .longer = {[POINTERS] = 1}};

@@ -6,6 +6,12 @@
  * round has T = k^n * n! arrangements, and each has a rank, 0 to T-1. Rank 0 is home: module i in slot i,
  * every setting 0. One flip leads from each rank to the next, and from T-1 to home.
  *
+ * A board is lent as two buffers: n counters c_1..c_n, and n + 1 pointers f_1..f_(n+1), each a byte. Each
+ * rank has a board, and no two ranks have the same: it tells the digits of the rank, which is the sum of
+ * d_j * k^(j-1) * (j-1)! with each d_j in 0..k*j-1. Let s be 1, or 2 where k = 1. A digit with j >= s is
+ * full where it is k*j - 1. Then c_j is d_j, or 0 where d_j is full or j < s; and f_j is j, or, where a run
+ * of full digits begins at j, the first place after the run.
+ *
  * The caller's duty, which no check can see: a buffer is lent as a pointer and then its length, has the
  * length passed with it, and overlaps no other buffer lent to the same call. A pointer may be NULL only
  * with length 0.
@@ -24,6 +30,7 @@
  *    7  a setting is k or more
  *    8  a rank is T or more
  *    9  a flip length is 0 or above n
+ *   10  a board is false, as said with limpet_board_step
  *
  * The place of 5, 6 and 7 is the lowest bad slot, counted from 1; for 6 the lowest slot whose module
  * already stands in a lower slot. Each is tried over all slots before the next. The place of every other
@@ -41,6 +48,10 @@
 #define LIMPET_NUMBER(answer) ((uint64_t)(answer) & 0xff)
 #define LIMPET_PLACE(answer) ((uint64_t)(answer) >> 8 & 0xff)
 #define LIMPET_VALUE(answer) ((uint64_t)(answer) >> 16)
+
+/* The two parts of the value of limpet_board_step. */
+#define LIMPET_FLIP(answer) (LIMPET_VALUE(answer) & 0xff)
+#define LIMPET_CLOSED(answer) (LIMPET_VALUE(answer) >> 8 & 1)
 
 #ifdef __cplusplus
 extern "C" {
@@ -63,6 +74,17 @@ uint64_t limpet_check(size_t n, size_t k, const uint8_t *modules, size_t modules
 uint64_t limpet_flip(size_t n, size_t k, size_t j, uint8_t *modules, size_t modules_length,
                      uint8_t *settings, size_t settings_length);
 
+/*
+ * The flip out of the arrangement, found by looking at it alone: the flip of this length leads to the next
+ * rank. Value: its length, 1 to n. Refusals 1 to 7.
+ */
+uint64_t limpet_look(size_t n, size_t k, const uint8_t *modules, size_t modules_length,
+                     const uint8_t *settings, size_t settings_length);
+
+/* Looks and makes the flip: leaves the arrangement of the next rank. Value: its length. Refusals 1 to 7. */
+uint64_t limpet_next(size_t n, size_t k, uint8_t *modules, size_t modules_length, uint8_t *settings,
+                     size_t settings_length);
+
 /* Has what is lent a rank? Value 0; the rank itself comes from limpet_rank_value. Refusals 1 to 7. */
 uint64_t limpet_rank(size_t n, size_t k, const uint8_t *modules, size_t modules_length,
                      const uint8_t *settings, size_t settings_length);
@@ -74,6 +96,25 @@ uint64_t limpet_rank_value(size_t n, size_t k, const uint8_t *modules, size_t mo
 /* Writes the arrangement of the rank, whatever the buffers hold. Value 0. Refusals 1 to 4, then 8. */
 uint64_t limpet_unrank(size_t n, size_t k, uint64_t rank, uint8_t *modules, size_t modules_length,
                        uint8_t *settings, size_t settings_length);
+
+/* Writes the board of the rank, whatever the buffers hold. Value 0. Refusals 1 to 4, then 8. */
+uint64_t limpet_board_write(size_t n, size_t k, uint64_t rank, uint8_t *counters, size_t counters_length,
+                            uint8_t *pointers, size_t pointers_length);
+
+/*
+ * One step, in a fixed few operations whatever n is: from the board of a rank it leaves the board of the
+ * next. Value: LIMPET_FLIP is the length of the flip out of the rank, and LIMPET_CLOSED is 1 where the rank
+ * was T-1, so that the round closed. Refusals 1 to 4, then 10, which a rank's board never meets.
+ *
+ * It looks at few of the bytes, and so steps many a false board. Let x be f_s.
+ *    x is outside s..n+1: refused by 10.
+ *    x is n+1: the flip is n, the round closed, and f_s becomes s.
+ *    Else c_x of k*x - 1 or more is refused by 10. With c_x + 1 = k*x - 1, let y be f_(x+1), and y outside
+ *    x+1..n+1 is refused by 10. Then f_s becomes s. A c_x + 1 below k*x - 1 is stored; otherwise c_x becomes
+ *    0, then f_x becomes y, then f_(x+1) becomes x+1. The flip is x.
+ */
+uint64_t limpet_board_step(size_t n, size_t k, uint8_t *counters, size_t counters_length, uint8_t *pointers,
+                           size_t pointers_length);
 
 #ifdef __cplusplus
 }

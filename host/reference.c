@@ -14,6 +14,11 @@ uint64_t refused(uint64_t number, uint64_t place)
     return number | place << 8;
 }
 
+uint64_t answered(uint64_t value)
+{
+    return value << 16;
+}
+
 /* Works T out as the product of k * i over i = 1..n; false where it is above 2^64 - 1. */
 static bool totals_fit(size_t n, size_t k, totals_by_slots totals)
 {
@@ -105,21 +110,26 @@ uint64_t reference_check(size_t n, size_t k, const uint8_t *modules, size_t modu
     return check_all(n, k, modules, modules_length, settings, settings_length, totals);
 }
 
+static void flip(size_t k, size_t j, uint8_t *modules, uint8_t *settings)
+{
+    uint8_t old_modules[MOST_SLOTS], old_settings[MOST_SLOTS];
+    memcpy(old_modules, modules, j);
+    memcpy(old_settings, settings, j);
+    for (size_t i = 0; i < j; i++) {
+        modules[i] = old_modules[j - 1 - i];
+        settings[i] = (uint8_t)((old_settings[j - 1 - i] + 1u) % k);
+    }
+}
+
 uint64_t reference_flip(size_t n, size_t k, size_t j, uint8_t *modules, size_t modules_length,
                         uint8_t *settings, size_t settings_length)
 {
-    uint8_t old_modules[MOST_SLOTS], old_settings[MOST_SLOTS];
     const uint64_t answer = reference_check(n, k, modules, modules_length, settings, settings_length);
     if (answer != DONE)
         return answer;
     if (j == 0 || j > n)
         return refused(9, 0);
-    memcpy(old_modules, modules, n);
-    memcpy(old_settings, settings, n);
-    for (size_t i = 0; i < j; i++) {
-        modules[i] = old_modules[j - 1 - i];
-        settings[i] = (uint8_t)((old_settings[j - 1 - i] + 1u) % k);
-    }
+    flip(k, j, modules, settings);
     return DONE;
 }
 
@@ -191,6 +201,39 @@ uint64_t reference_unrank(size_t n, size_t k, uint64_t rank, uint8_t *modules, s
     return DONE;
 }
 
+/* SUCCESSOR, Algorithm 1 of 000; there v and c begin at 1. */
+static size_t successor(size_t n, size_t k, const uint8_t *v, const uint8_t *c)
+{
+    unsigned rises = 0;
+    for (size_t j = 1; j < n; j++) {
+        const bool rise = v[j - 1] < v[j];
+        rises += rise;
+        if (rises == 2 || (rises == 1 && v[j] < v[0]))
+            return j;
+        if (k > 1 && rise && (c[j] + k - c[j - 1]) % k != 1)
+            return j;
+        if (k > 1 && !rise && c[j - 1] != c[j])
+            return j;
+    }
+    return n;
+}
+
+uint64_t reference_look(size_t n, size_t k, const uint8_t *modules, size_t modules_length,
+                        const uint8_t *settings, size_t settings_length)
+{
+    const uint64_t answer = reference_check(n, k, modules, modules_length, settings, settings_length);
+    return answer != DONE ? answer : answered(successor(n, k, modules, settings));
+}
+
+uint64_t reference_next(size_t n, size_t k, uint8_t *modules, size_t modules_length, uint8_t *settings,
+                        size_t settings_length)
+{
+    const uint64_t answer = reference_check(n, k, modules, modules_length, settings, settings_length);
+    if (answer != DONE)
+        return answer;
+    return unchecked_next(n, k, modules, modules_length, settings, settings_length);
+}
+
 uint64_t unchecked_rank_value(size_t n, size_t k, const uint8_t *modules, size_t modules_length,
                               const uint8_t *settings, size_t settings_length)
 {
@@ -210,4 +253,14 @@ uint64_t unchecked_unrank(size_t n, size_t k, uint64_t rank, uint8_t *modules, s
     totals_fit(n, k, totals);
     unrank(n, k, rank, modules, settings, totals);
     return DONE;
+}
+
+uint64_t unchecked_next(size_t n, size_t k, uint8_t *modules, size_t modules_length, uint8_t *settings,
+                        size_t settings_length)
+{
+    const size_t j = successor(n, k, modules, settings);
+    (void)modules_length;
+    (void)settings_length;
+    flip(k, j, modules, settings);
+    return answered(j);
 }

@@ -4,13 +4,15 @@
 #include "arrangements.h"
 #include "limpet.h"
 #include "reference.h"
+#include "reference_board.h"
 
 enum { LENGTHS = 6 };
 
-/* Of these lengths only the first, n, is right. */
-static size_t length_at(size_t which, size_t n)
+/* Of these lengths only the first is right. */
+static size_t length_at(const struct call *call, size_t row, size_t which, size_t n)
 {
-    const size_t all[LENGTHS] = {n, 0, n - 1, n + 1, 256 + n, ROW_MOST};
+    const size_t right = n + call->longer[row];
+    const size_t all[LENGTHS] = {right, 0, right - 1, right + 1, 256 + right, ROW_MOST};
     return all[which];
 }
 
@@ -18,19 +20,22 @@ static size_t length_at(size_t which, size_t n)
  * Has the call refused by `number`, for 5, 6 and 7 at `slot`; 6 needs a slot behind the first, and 3 a
  * size that is too large from the start. Of several faults the higher numbers are made first.
  */
-static void spoil(struct asked *asked, unsigned number, size_t slot)
+static void spoil(const struct call *call, struct asked *asked, unsigned number, size_t slot)
 {
     const uint64_t total = reference_round_total(asked->n, asked->k);
+    const size_t row = number == 4 ? draw(ROWS) : 0, s = first_digit(asked->k);
     uint8_t *modules = asked->lent[MODULES].bytes, *settings = asked->lent[SETTINGS].bytes;
+    uint8_t *pointers = asked->lent[POINTERS].bytes;
     switch (number) {
     case 1: asked->n = beyond(draw(BEYOND), asked->n, LIMPET_MOST_SLOTS); break;
     case 2: asked->k = beyond(draw(BEYOND), asked->k, LIMPET_MOST_SETTINGS); break;
-    case 4: asked->lent[draw(ROWS)].length = length_at(1 + draw(LENGTHS - 1), asked->n); break;
+    case 4: asked->lent[row].length = length_at(call, row, 1 + draw(LENGTHS - 1), asked->n); break;
     case 5: modules[slot - 1] = (uint8_t)(draw(4) == 0 ? 0 : 255 - draw(255 - asked->n)); break;
     case 6: modules[slot - 1] = modules[draw(slot - 1)]; break;
     case 7: settings[slot - 1] = (uint8_t)(255 - draw(256 - asked->k)); break;
     case 8: asked->argument = rank_beyond(draw(RANKS_BEYOND), asked->argument, total); break;
     case 9: asked->argument = beyond(draw(BEYOND), asked->argument, asked->n); break;
+    case 10: pointers[s - 1] = (uint8_t)(draw(4) == 0 ? draw(s) : 255 - draw(254 - asked->n)); break;
     default: break;
     }
 }
@@ -61,8 +66,8 @@ static void lengths(const struct call *call, size_t n, size_t k)
     for (size_t first = 0; first < LENGTHS; first++)
         for (size_t second = first == 0 ? 1 : 0; second < LENGTHS; second++) {
             struct asked asked = call->fair(n, k);
-            asked.lent[MODULES].length = length_at(first, n);
-            asked.lent[SETTINGS].length = length_at(second, n);
+            asked.lent[0].length = length_at(call, 0, first, n);
+            asked.lent[1].length = length_at(call, 1, second, n);
             expect_refused(call, &asked, 4, 0);
         }
 }
@@ -74,8 +79,8 @@ static void two_faults_at_all_slots(const struct call *call, unsigned low, unsig
     for (size_t low_slot = first_slot(low); low_slot <= n; low_slot++)
         for (size_t high_slot = first_slot(high); high_slot <= n; high_slot++) {
             struct asked asked = call->fair(n, k);
-            spoil(&asked, high, high_slot);
-            spoil(&asked, low, low_slot);
+            spoil(call, &asked, high, high_slot);
+            spoil(call, &asked, low, low_slot);
             const size_t bad_slot = low == high && high_slot < low_slot ? high_slot : low_slot;
             expect_refused(call, &asked, low, low >= 5 && low <= 7 ? bad_slot : 0);
         }
@@ -96,7 +101,7 @@ static void random_inputs(const struct call *call)
         for (size_t i = REFUSALS_MOST; i-- > 0;) {
             const size_t slot = 1 + draw(n);
             if (draw(4) == 0 && slot >= first_slot(call->refusals[i]))
-                spoil(&asked, call->refusals[i], slot);
+                spoil(call, &asked, call->refusals[i], slot);
         }
         ask(call, &asked);
     }
@@ -125,6 +130,16 @@ static void repeats(const struct call *call, size_t n, size_t k)
             asked.lent[MODULES].bytes[slot - 1] = asked.lent[MODULES].bytes[lower - 1];
             expect_refused(call, &asked, 6, slot);
         }
+}
+
+static void ranks_beyond(const struct call *call, size_t n, size_t k)
+{
+    const uint64_t total = reference_round_total(n, k);
+    for (size_t which = 0; which < RANKS_BEYOND; which++) {
+        struct asked asked = call->fair(n, k);
+        asked.argument = rank_beyond(which, asked.argument, total);
+        expect_refused(call, &asked, 8, 0);
+    }
 }
 
 static uint8_t take_digit(unsigned *code, unsigned base)
@@ -157,6 +172,15 @@ void refusal_tests(const struct call *call)
         {"of two faults the lower number, of one number the lower slot", .once = two_faults},
         {"good and damaged inputs at random", .once = random_inputs},
     };
+    run_tests(call, tests, COUNT_OF(tests));
+}
+
+void rank_refusal_tests(const struct call *call)
+{
+    static const struct test tests[] = {
+        {"8 for T, T+1 and far beyond", .at_every_size = ranks_beyond},
+    };
+    refusal_tests(call);
     run_tests(call, tests, COUNT_OF(tests));
 }
 

@@ -4,10 +4,13 @@
 
 #include "test.h"
 
-/* For a call that is lent two buffers of n bytes: the sizes, the lengths, and faults that meet. */
+/* For a call that is lent two buffers: the sizes, the lengths, and faults that meet. */
 void refusal_tests(const struct call *call);
 
-/* For a call that is lent an arrangement: all of these, and what is wrong with the arrangement. */
+/* For a call that takes a rank too: all of these, and ranks of T or more. */
+void rank_refusal_tests(const struct call *call);
+
+/* For a call that is lent an arrangement: those of two buffers, and what is wrong with the arrangement. */
 void arrangement_tests(const struct call *call);
 
 #endif

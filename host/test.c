@@ -105,6 +105,8 @@ static uint64_t apply(const struct function *function, const struct asked *asked
         return function->of_sizes(asked->n, asked->k);
     if (function->reading != NULL)
         return function->reading(asked->n, asked->k, lent[0], first, lent[1], second);
+    if (function->changing != NULL)
+        return function->changing(asked->n, asked->k, lent[0], first, lent[1], second);
     return function->writing(asked->n, asked->k, asked->argument, lent[0], first, lent[1], second);
 }
 
@@ -170,6 +172,15 @@ void expect(const struct call *call, const struct asked *asked, uint64_t answer,
     const struct outcome outcome = {ask(call, &came), true, came.lent};
     if (failures == failures_before)
         hold(call, asked, outcome, (struct outcome){answer, true, left->lent});
+}
+
+void expect_line(const char *came, const char *known)
+{
+    if (came == NULL && known == NULL)
+        return;
+    if ((came == NULL || known == NULL || strcmp(came, known) != 0) && ++failures <= FAILURES_PRINTED)
+        printf("  came      %s\n  expected  %s\n", came == NULL ? "nothing" : came,
+               known == NULL ? "nothing" : known);
 }
 
 void expect_refused(const struct call *call, const struct asked *asked, uint64_t number, uint64_t place)

@@ -12,7 +12,7 @@
 #define COUNT_OF(array) (sizeof(array) / sizeof((array)[0]))
 
 /* The rows that a call is lent. ROW_MOST has room for a length whose low byte alone is right. */
-enum { MODULES, SETTINGS, ROWS, ROW_MOST = 300, REFUSALS_MOST = 10 };
+enum { MODULES, SETTINGS, ROWS, COUNTERS = MODULES, POINTERS, ROW_MOST = 300, REFUSALS_MOST = 10 };
 
 struct row {
     size_t length;
@@ -29,6 +29,7 @@ struct asked {
 struct function {
     uint64_t (*of_sizes)(size_t n, size_t k);
     uint64_t (*reading)(size_t n, size_t k, const uint8_t *, size_t, const uint8_t *, size_t);
+    uint64_t (*changing)(size_t n, size_t k, uint8_t *, size_t, uint8_t *, size_t);
     uint64_t (*writing)(size_t n, size_t k, size_t argument, uint8_t *, size_t, uint8_t *, size_t);
 };
 
@@ -41,6 +42,8 @@ struct call {
 
     /* What the call takes where it takes n and k, at random; for any n of 1..20 and k of 1..8. */
     struct asked (*fair)(size_t n, size_t k);
+
+    size_t longer[ROWS]; /* by how many bytes each row is longer than n */
 };
 
 /* A named test, whose body is run once or at every permitted size. One body serves several calls. */
@@ -73,10 +76,16 @@ uint64_t ask(const struct call *call, struct asked *asked);
 void expect(const struct call *call, const struct asked *asked, uint64_t answer, const struct asked *left);
 void expect_refused(const struct call *call, const struct asked *asked, uint64_t number, uint64_t place);
 
+/* Holds a line of text to the one that is known; either is NULL where there is none. */
+void expect_line(const char *came, const char *known);
+
 /* One for each file of tests. */
 void sizes_tests(void);
 void check_tests(void);
 void flip_tests(void);
 void rank_tests(void);
+void look_tests(void);
+void board_tests(void);
+void handover_tests(void);
 
 #endif

@@ -11,5 +11,8 @@ int main(void)
     check_tests();
     flip_tests();
     rank_tests();
+    look_tests();
+    board_tests();
+    handover_tests();
     return end_of_tests();
 }

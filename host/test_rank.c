@@ -5,8 +5,8 @@
 #include "reference.h"
 #include "refusals.h"
 
-/* A round of at most WHOLE arrangements is tried whole, a larger one at both ends and at random. */
-enum { WHOLE = 50000, AT_ENDS = 50, AT_RANDOM = 2000 };
+/* A round above WHOLE is tried at both ends and at random. */
+enum { AT_ENDS = 50, AT_RANDOM = 2000 };
 
 /* Asks any of the three calls, knowing that the arrangement has the rank that is its argument. */
 static void expect_rank(const struct call *call, const struct asked *known)
@@ -49,22 +49,11 @@ static void greedy_order(const struct call *call, size_t n, size_t k)
         greedy_round(call, n, k, expect_rank);
 }
 
-/* 01: the smallest j whose digit isn't full, or n. */
-static size_t flip_out_of(size_t n, size_t k, uint64_t rank)
-{
-    for (size_t j = 1; j <= n; rank /= k * j, j++)
-        if (rank % (k * j) != k * j - 1)
-            return j;
-    return n;
-}
-
 /* From ranks whose lowest digits are full, one of them and then one more up to all. */
 static void next_ranks(const struct call *call, size_t n, size_t k)
 {
     for (size_t full = 1; full <= n; full++) {
-        const uint64_t weight = reference_round_total(full, k);
-        struct asked asked = random_rank(n, k);
-        asked.argument = (asked.argument / weight + 1) * weight - 1;
+        struct asked asked = rank_with_full_digits(n, k, full);
         ask(&unrank_call, &asked);
         make_flip(&asked, flip_out_of(n, k, asked.argument));
         asked.argument = (asked.argument + 1) % reference_round_total(n, k);
@@ -101,16 +90,6 @@ static void back_and_there(const struct call *call, size_t n, size_t k)
     }
 }
 
-static void ranks_beyond(const struct call *call, size_t n, size_t k)
-{
-    const uint64_t total = reference_round_total(n, k);
-    for (size_t which = 0; which < RANKS_BEYOND; which++) {
-        struct asked asked = random_rank(n, k);
-        asked.argument = rank_beyond(which, asked.argument, total);
-        expect_refused(call, &asked, 8, 0);
-    }
-}
-
 void rank_tests(void)
 {
     static const struct test of_each[] = {
@@ -124,7 +103,6 @@ void rank_tests(void)
     };
     static const struct test of_unrank[] = {
         {"rank leads back, from all ranks where T <= 50,000", .at_every_size = there_and_back},
-        {"8 for T, T+1 and far beyond", .at_every_size = ranks_beyond},
     };
     run_tests(&rank_call, of_each, COUNT_OF(of_each));
     arrangement_tests(&rank_call);
@@ -133,5 +111,5 @@ void rank_tests(void)
     arrangement_tests(&value_call);
     run_tests(&unrank_call, of_each, COUNT_OF(of_each));
     run_tests(&unrank_call, of_unrank, COUNT_OF(of_unrank));
-    refusal_tests(&unrank_call);
+    rank_refusal_tests(&unrank_call);
 }

@@ -6,6 +6,7 @@
 
 #include "calls.h"
 #include "reference.h"
+#include "reference_board.h"
 
 #include <stdio.h>
 #include <stdlib.h>
@@ -25,16 +26,20 @@ static const struct entry entries[] = {
     {.call = &total_call},
     {.call = &check_call},
     {.call = &flip_call},
+    {.call = &look_call},
+    {.call = &next_call, .unchecked.changing = unchecked_next},
     {.call = &rank_call},
     {.call = &value_call, .unchecked.reading = unchecked_rank_value},
     {.call = &unrank_call, .unchecked.writing = unchecked_unrank},
+    {.call = &board_write_call},
+    {.call = &board_step_call, .unchecked.changing = unchecked_board_step},
 };
 
 static const struct {
     size_t n, k;
 } sizes[] = {{20, 1}, {16, 2}, {11, 8}};
 
-/* What a call is asked INPUTS times, and has written. */
+/* What a call is asked INPUTS times, and has written. A call that leads on walks from the first. */
 struct batch {
     size_t n, k, lengths[ROWS];
     struct input {
@@ -57,7 +62,7 @@ static void prepare(struct batch *batch, const struct call *call, size_t n, size
     }
 }
 
-/* Makes the call on each input, and answers the sum of the answers. */
+/* Makes the call as often as there are inputs, and answers the sum of the answers. */
 static uint64_t call_all(const struct function *function, struct batch *batch)
 {
     const size_t n = batch->n, k = batch->k, first = batch->lengths[0], second = batch->lengths[1];
@@ -69,6 +74,9 @@ static uint64_t call_all(const struct function *function, struct batch *batch)
     else if (function->reading != NULL)
         for (struct input *in = batch->inputs; in < end; in++)
             sum += function->reading(n, k, in->rows[0], first, in->rows[1], second);
+    else if (function->changing != NULL)
+        for (struct input *in = batch->inputs, *at = in; in < end; in++)
+            sum += function->changing(n, k, at->rows[0], first, at->rows[1], second);
     else
         for (struct input *in = batch->inputs; in < end; in++)
             sum += function->writing(n, k, in->argument, in->rows[0], first, in->rows[1], second);
@@ -109,7 +117,8 @@ enum { LIBRARY, PLAIN, UNCHECKED, COLUMNS };
 
 static bool is_set(const struct function *function)
 {
-    return function->of_sizes != NULL || function->reading != NULL || function->writing != NULL;
+    return function->of_sizes != NULL || function->reading != NULL || function->changing != NULL ||
+           function->writing != NULL;
 }
 
 /* The best time of each column; ends the program where two columns differ in what they answer or write. */
@@ -139,7 +148,7 @@ static void time_entry(const struct entry *entry, size_t n, size_t k)
     printf("%-12s %3zu %3zu %9.1f %9.1f %19.2f", entry->call->name, n, k, best[LIBRARY], best[PLAIN],
            best[LIBRARY] / best[PLAIN]);
     if (is_set(&entry->unchecked))
-        printf(" %11.1f", best[UNCHECKED]);
+        printf(" %11.1f %21.2f", best[UNCHECKED], best[LIBRARY] / best[UNCHECKED]);
     printf("\n");
 }
 
@@ -147,9 +156,9 @@ int main(void)
 {
     printf("library  %s\n", LIBRARY_NAME);
     printf("plain C  the reference of the tests, by %s (%s)\n", PLAIN_COMPILER, __VERSION__);
-    printf("ns per call, the best of %d rounds over %d random inputs\n\n", ROUNDS, INPUTS);
-    printf("%-12s %3s %3s %9s %9s %19s %11s\n", "call", "n", "k", "library", "plain C", "library / plain C",
-           "unchecked C");
+    printf("ns per call, the best of %d rounds over %d random inputs, or steps of a walk\n\n", ROUNDS, INPUTS);
+    printf("%-12s %3s %3s %9s %9s %19s %11s %21s\n", "call", "n", "k", "library", "plain C",
+           "library / plain C", "unchecked C", "library / unchecked C");
     for (size_t i = 0; i < COUNT_OF(entries); i++)
         for (size_t j = 0; j < COUNT_OF(sizes); j++)
             time_entry(&entries[i], sizes[j].n, sizes[j].k);

@@ -1,15 +1,18 @@
 -- The laws of answers. A promise is made of equations, so two outcomes that keep it are equal; the number and the place of a
 -- verdict are below 256, so the three parts of the one number stand in bits of their own. Assumes nothing.
-use Prim.Native.Nat.{ℕ, _+_, _*_, _^_, _/_, _%_, _<_}
+use Prim.Native.Nat.{ℕ, _+_, _*_, _^_, _/_, _%_, _≤_, _<_}
 use mathlib.Core.Path.{_≡_, refl, sym, _∙_, ap, ap₂}
-use mathlib.Core.Bool.{Bool, true, false}
+use mathlib.Core.Bool.{Bool, true, false, cond}
 use mathlib.Core.List.{List, []}
 use native.Mathlib.Omega.{arith}
 use lib.Arith.{digits-div, digits-mod}
+use Rattle.rows.proofs.Cases.{by-test}
 use Rattle.sizes.specs.declared.Verdict.{Verdict}
 use Rattle.sizes.specs.declared.Verdict.the-variants.{Fine, Refused}
 use Rattle.sizes.specs.Refusal.{refuses, numberOf, placeOf, unlessRefused}
 use Rattle.sizes.proofs.Refusals.{was-fine, Small}
+use Rattle.board.specs.Step.{stepFlip, closes}
+use Rattle.limpet.specs.Calls.{stepValue}
 use Rattle.limpet.specs.Answer.{Answer, answerOf, packed, unpacked, left, Outcome, outcome, Returns, Leaves}
 
 -- ---- one outcome
@@ -88,3 +91,12 @@ done-leaves {v} {check} value one two one-written two-written v-is t-is t-false 
     let fine = was-fine v-is t-is t-false in
     let returned = r-is ∙ ap (λ w. packed (answerOf w value)) v-is in
     record { returned-is = returned; one-is = a-is ∙ rw fine; two-is = b-is ∙ rw fine }
+
+-- the value of a step, from the flip f and whether the round closed, b
+pub step-value-is : (n k : ℕ) (fs : List ℕ) {v f : ℕ} {b : Bool} → v ≡ f + cond b 256 0 → f ≡ stepFlip n k fs → b ≡ closes n k fs → v ≡ stepValue n k fs
+unfolding stepValue
+step-value-is n k fs v-is f-is b-is = v-is ∙ ap₂ (λ (x : ℕ) (y : Bool). x + cond y 256 0) f-is b-is
+
+-- it is at most 256 more than the flip
+pub step-value-high : {v f g : ℕ} {b d : Bool} → v ≡ f + cond b 256 0 → f ≡ g → b ≡ d → v ≤ g + 256
+step-value-high {v} {f} {g} {b} e f-is b-is = by-test b (λ t. omega (arith, rw t at e)) (λ t. omega (arith, rw t at e))

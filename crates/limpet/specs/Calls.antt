@@ -1,5 +1,6 @@
 -- What each call from C returns and leaves, as total functions of what came in. Where a call has no value, its value is 0.
-use Prim.Native.Nat.{ℕ}
+use Prim.Native.Nat.{ℕ, suc, _+_}
+use mathlib.Core.Bool.{cond}
 use mathlib.Core.List.{List}
 use Rattle.rows.specs.Row.{at, row}
 use Rattle.sizes.specs.Refusal.{unlessRefused}
@@ -9,6 +10,8 @@ use Rattle.arrangement.specs.Flip.{flippedModules, flippedSettings, flipVerdict
 use Rattle.order.specs.Check.{lentRankVerdict}
 use Rattle.order.specs.Rank.{rank, unrankModules, unrankSettings}
 use Rattle.look.specs.Look.{look}
+use Rattle.board.specs.Board.{counter, pointer}
+use Rattle.board.specs.Step.{closes, stepFlip, lentStepVerdict, steppedCounters, steppedPointers}
 use Rattle.limpet.specs.Answer.{answerOf, packed, Outcome, outcome}
 
 -- limpet_round: the check of n and k
@@ -46,3 +49,16 @@ unfoldable pub nextLeaves : ℕ → ℕ → List ℕ → List ℕ → Outcome
 nextLeaves n k ms ss =
     outcome (lentVerdict n k ms ss) (look n k (at ms) (at ss)) ms ss
     (row (flippedModules (look n k (at ms) (at ss)) (at ms)) n) (row (flippedSettings k (look n k (at ms) (at ss)) (at ss)) n)
+
+-- limpet_board_write: the board of a rank
+unfoldable pub boardLeaves : ℕ → ℕ → ℕ → List ℕ → List ℕ → Outcome
+boardLeaves n k r cs fs =
+    outcome (lentRankVerdict n k r n cs (suc n) fs) 0 cs fs (row (λ i. counter k r (suc i)) n) (row (λ i. pointer n k r (suc i)) (suc n))
+
+-- limpet_board_step: one step, with the flip in the lowest 8 bits of the value and, in the next, whether the round closed
+unfoldable pub stepValue : ℕ → ℕ → List ℕ → ℕ
+stepValue n k fs = stepFlip n k fs + cond (closes n k fs) 256 0
+
+unfoldable pub stepLeaves : ℕ → ℕ → List ℕ → List ℕ → Outcome
+stepLeaves n k cs fs =
+    outcome (lentStepVerdict n k cs fs) (stepValue n k fs) cs fs (steppedCounters n k cs fs) (steppedPointers n k cs fs)

@@ -2,6 +2,7 @@
 // calls a floor below, and packs its answer; none has a `requires`.
 mod answer;
 pub mod of_arrangements;
+pub mod of_boards;
 pub mod of_looks;
 pub mod of_ranks;
 pub mod of_sizes;

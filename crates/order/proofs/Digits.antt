@@ -1,9 +1,9 @@
 -- The digits of a rank, and the flip that they name. The rest of a rank below m places is made of its first m digits, so they
 -- are all full exactly where that rest is the largest there is. Assumes nothing.
-use mathlib.Core.Path.{_≡_, sym, ap, _∙_}
+use mathlib.Core.Path.{_≡_, refl, sym, ap, _∙_}
 use mathlib.Core.Bool.{true, false}
 use Prim.Native.Nat.{ℕ, zero, suc, _+_, _-_, _*_, _/_, _%_, _≤_, _<_, _∣_}
-use native.Mathlib.Nat.{le-antisymm, mod-lt, mod-eq-of-lt, mul-pos, le-refl, mul-le-mul-right, mod-one, mod-mod-of-dvd, dvd-refl, dvd-mul-left-of-dvd, mul-div-cancel, mul-mod-left, add-zero}
+use native.Mathlib.Nat.{div-add-mod', zero-mod, zero-div, le-antisymm, mod-lt, mod-eq-of-lt, mul-pos, le-refl, mul-le-mul-right, mod-one, mod-mod-of-dvd, dvd-refl, dvd-mul-left-of-dvd, mul-div-cancel, mul-mod-left, add-zero}
 use native.Mathlib.Decide.{le-ind}
 use native.Mathlib.Omega.{arith}
 use lib.Arith.{digits-lt, digits-div, digits-mod, mod-mul}
@@ -158,3 +158,46 @@ module _ (k : ℕ) (h : 1 ≤ k) where
         by-lt m j
         (λ l. let e : j ≡ suc m = omega arith in rw e (top-digit m (ofDigits m k d) (d (suc m)) rest-lt (all (suc m) (omega arith) (le-refl _))))
         (λ l. lower-digit m (ofDigits m k d) (d (suc m)) rest-lt j a l ∙ digit-of-digits m (λ i x y. all i x (omega arith)) j a l)
+
+-- ---- the digits of the number after r
+
+module _ (k : ℕ) (h : 1 ≤ k) where
+  -- the digits of 0
+  pub digit-zero : (j : ℕ) → digit k 0 j ≡ 0
+  unfolding digit
+  digit-zero zero = refl
+  digit-zero (suc q) = rw (zero-div (weight q k)) (zero-mod (k * suc q))
+
+  -- the first p digits are full: they become 0
+  pub after-full : (p r : ℕ) → Full p k r → (j : ℕ) → 1 ≤ j → j ≤ p → digit k (suc r) j ≡ 0
+  after-full p r t zero a l = absurd (omega arith)
+  after-full p r t (suc q) a l =
+      let w = weight (suc q) k in
+      let here : suc (r % w) ≡ w = full-down k h (suc q) p r l t in
+      let whole : suc r ≡ (r / w + 1) * w = omega (arith, div-add-mod' r w) in
+      digit-of-rest k h q (suc r) 0 (ap (λ x. x % w) whole ∙ mul-mod-left (r / w + 1) w ∙ sym (zero-mod w)) ∙ digit-zero (suc q)
+
+  -- the digits below m + 1 are full and that one is not: it becomes one more
+  pub after-open : (m r : ℕ) → Full m k r → suc (digit k r (suc m)) < k * suc m → digit k (suc r) (suc m) ≡ suc (digit k r (suc m))
+  after-open m r t room =
+      let d = digit k r (suc m) in
+      let w = weight m k in
+      let rest : suc (r % weight (suc m) k) ≡ suc d * w + 0 = omega (arith, rest-one-more k h m r) in
+      let below : suc d * w + 0 < weight (suc m) k = rw weight-suc (digits-lt room (weight-pos m k h)) in
+      let same : suc r % weight (suc m) k ≡ (suc d * w + 0) % weight (suc m) k = suc-rest (weight (suc m) k) r (omega arith) ∙ rest ∙ sym (mod-eq-of-lt below) in
+      digit-of-rest k h m (suc r) (suc d * w + 0) same ∙ top-digit k h m 0 (suc d) (weight-pos m k h) room
+    where
+      suc-rest : (w r : ℕ) → suc (r % w) < w → suc r % w ≡ suc (r % w)
+      suc-rest w r l = ap (λ x. x % w) {x = suc r} {y = r / w * w + suc (r % w)} (omega (arith, div-add-mod' r w)) ∙ digits-mod (r / w) l
+
+  -- not all of the first m are full: those behind stay
+  pub after-behind : (m r : ℕ) → suc (r % weight m k) < weight m k → (j : ℕ) → m < j → digit k (suc r) j ≡ digit k r j
+  after-behind m r room zero l = absurd (omega arith)
+  after-behind m r room (suc q) l = unfold digit in ap (λ x. x % (k * suc q)) same
+    where
+      not-full : suc (r % weight q k) < weight q k
+      not-full = by-lt (suc (r % weight q k)) (weight q k) (λ x. x)
+          (λ g. absurd (omega (arith, full-down k h m q r (omega arith) (omega (arith, mod-lt r (weight-pos q k h))))))
+
+      same : suc r / weight q k ≡ r / weight q k
+      same = ap (λ x. x / weight q k) {x = suc r} {y = r / weight q k * weight q k + suc (r % weight q k)} (omega (arith, div-add-mod' r (weight q k))) ∙ digits-div (r / weight q k) not-full

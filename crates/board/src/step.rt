@@ -1,0 +1,143 @@
+// One step of a board, and its check. It reads the pointer at s and what it points to, and looks no
+// further, so that it costs the same whatever n is.
+use sizes::Verdict;
+ghost use mathlib.Core.Path.{_≡_};
+ghost use Prim.Native.Nat.{suc, _≤_, _<_};
+ghost use lib.ListN.{length};
+ghost use Rattle.board.specs.Board.{lowestDigit};
+ghost use Rattle.board.specs.Step.{place as placeOf, put as putIn, closes, stepFlip, counterVerdict, stepVerdict, lentStepVerdict, steppedCounters, steppedPointers};
+ghost use Rattle.board.specs.Asked.{LentBoard, DigitAsked, FillAsked, StepAsked};
+
+// The number at a place of a row, counted from 1.
+fn place(numbers: &[u8], j: usize) -> usize
+    requires { ⌜ (1 ≤ j) × (j ≤ length (now numbers)) ⌝ }
+    ensures { λ r. ⌜ (r ≡ placeOf (now (numbers .entry)) j) × (r < 256) ⌝ }
+{
+    numbers[j - 1] as usize
+}
+
+// Puts a number at a place of a row, counted from 1.
+fn put(numbers: &mut [u8], j: usize, number: usize)
+    requires { ⌜ (1 ≤ j) × (j ≤ length (now numbers)) × (number < 256) ⌝ }
+    ensures { λ _. ⌜ now (numbers .exit) ≡ putIn (now (numbers .entry)) j number ⌝ }
+{
+    numbers[j - 1] = number as u8;
+}
+
+// s, the lowest digit that can be below its full value.
+pub fn lowest_digit(k: usize) -> usize
+    ensures { λ r. ⌜ r ≡ lowestDigit k ⌝ }
+{
+    if k == 1 { 2 } else { 1 }
+}
+
+// The check of digit x, to which the pointer at s points.
+fn judge_digit(n: usize, k: usize, x: usize, counters: &[u8], pointers: &[u8]) -> Verdict
+    requires { ⌜ DigitAsked n k x (now counters) (now pointers) ⌝ }
+    ensures { λ r. ⌜ r ≡ counterVerdict n k x (now (counters .entry)) (now (pointers .entry)) ⌝ }
+{
+    let full = k * x - 1;
+    let counter = place(counters, x);
+    if full <= counter {
+        return Verdict::Refused(10, 0);
+    }
+    if counter + 1 != full {
+        return Verdict::Fine;
+    }
+    let end = place(pointers, x + 1);
+    if end < x + 1 {
+        return Verdict::Refused(10, 0);
+    }
+    if n + 1 < end {
+        return Verdict::Refused(10, 0);
+    }
+    Verdict::Fine
+}
+
+// The check of a step, of two buffers that have their lengths.
+fn judge_step(n: usize, k: usize, counters: &[u8], pointers: &[u8]) -> Verdict
+    requires { ⌜ LentBoard n k (now counters) (now pointers) ⌝ }
+    ensures { λ r. ⌜ r ≡ stepVerdict n k (now (counters .entry)) (now (pointers .entry)) ⌝ }
+{
+    let s = lowest_digit(k);
+    let x = place(pointers, s);
+    if x < s {
+        return Verdict::Refused(10, 0);
+    }
+    if n + 1 < x {
+        return Verdict::Refused(10, 0);
+    }
+    if x == n + 1 {
+        return Verdict::Fine;
+    }
+    judge_digit(n, k, x, counters, pointers)
+}
+
+// The check of any n and k and of a step of any two lent buffers.
+pub fn judge(n: usize, k: usize, counters: &[u8], pointers: &[u8]) -> Verdict
+    ensures { λ r. ⌜ r ≡ lentStepVerdict n k (now (counters .entry)) (now (pointers .entry)) ⌝ }
+{
+    let size = sizes::judge(n, k);
+    if size.refuses() {
+        return size;
+    }
+    if counters.len() != n {
+        return Verdict::Refused(4, 0);
+    }
+    if pointers.len() != n + 1 {
+        return Verdict::Refused(4, 0);
+    }
+    judge_step(n, k, counters, pointers)
+}
+
+// Digit x becomes full: it joins the run behind it.
+fn fill(s: usize, x: usize, counters: &mut [u8], pointers: &mut [u8])
+    requires { ⌜ FillAsked s x (now counters) (now pointers) ⌝ }
+    ensures { λ _. ⌜ now (counters .exit) ≡ putIn (now (counters .entry)) x 0 ⌝ }
+    ensures { λ _. ⌜ now (pointers .exit) ≡ putIn (putIn (putIn (now (pointers .entry)) s s) x (placeOf (now (pointers .entry)) (suc x))) (suc x) (suc x) ⌝ }
+{
+    let end = place(pointers, x + 1);
+    put(counters, x, 0);
+    put(pointers, s, s);
+    put(pointers, x, end);
+    put(pointers, x + 1, x + 1);
+}
+
+// What a step answers: the length of the flip, and whether the round closed.
+pub struct Stepped {
+    pub flip: usize,
+    pub closed: bool,
+}
+
+// The step, of a board that it does not refuse.
+pub fn step(n: usize, k: usize, counters: &mut [u8], pointers: &mut [u8]) -> Stepped
+    requires { ⌜ StepAsked n k (now counters) (now pointers) ⌝ }
+    ensures { λ r. ⌜ r .flip ≡ stepFlip n k (now (pointers .entry)) ⌝ }
+    ensures { λ r. ⌜ r .closed ≡ closes n k (now (pointers .entry)) ⌝ }
+    ensures { λ _. ⌜ now (counters .exit) ≡ steppedCounters n k (now (counters .entry)) (now (pointers .entry)) ⌝ }
+    ensures { λ _. ⌜ now (pointers .exit) ≡ steppedPointers n k (now (counters .entry)) (now (pointers .entry)) ⌝ }
+{
+    let s = lowest_digit(k);
+    let x = place(pointers, s);
+    if x == n + 1 {
+        put(pointers, s, s);
+        return Stepped {
+            flip: n,
+            closed: true,
+        };
+    }
+    let counter = place(counters, x) + 1;
+    if counter != k * x - 1 {
+        put(pointers, s, s);
+        put(counters, x, counter);
+        return Stepped {
+            flip: x,
+            closed: false,
+        };
+    }
+    fill(s, x, counters, pointers);
+    Stepped {
+        flip: x,
+        closed: false,
+    }
+}
