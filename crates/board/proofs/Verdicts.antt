@@ -16,7 +16,7 @@ use Rattle.rows.proofs.Cases.{by-eq, by-test, below-range, above-range, in-rang
 use Rattle.sizes.specs.declared.Verdict.{Verdict}
 use Rattle.sizes.specs.declared.Verdict.the-variants.{Fine, Refused}
 use Rattle.sizes.specs.Refusal.{refusedIf, first, numberOf, placeOf}
-use Rattle.sizes.specs.Sizes.{Permitted, sizesVerdict}
+use Rattle.sizes.specs.Sizes.{Permitted, sizesVerdict, mostSlots}
 use Rattle.sizes.proofs.Refusals.{faulty, faultless, last-faulty, last-faultless, both-fine, no-fault, Small, small-first, small-if}
 use Rattle.sizes.proofs.Weights.{permitted, small-sizes}
 use Rattle.arrangement.specs.Check.{lengthVerdict}
@@ -243,3 +243,33 @@ small-step n k cs fs =
     (λ fine. small-first _ _ (small-if 4 _ (omega arith))
     (λ fine. small-first _ _ (small-if 10 _ (omega arith))
     (λ fine. by-test (closes n k fs) (λ t. rw t small-fine) (λ t. rw t (small-digit n k (pointed k fs) cs fs))))))
+
+-- ---- the digit x that the pointer at s points to, where the round does not close
+
+pub record Pointed (n k s x : ℕ) (cs fs : List ℕ) : Type 0 where
+  pub s-low : 1 ≤ s
+  pub s-high : s ≤ x
+  pub x-high : x ≤ n
+  pub n-high : n ≤ mostSlots
+  pub product-low : 1 ≤ k * x
+  pub product-high : k * x ≤ 160
+  pub room : place cs x < k * x - 1
+  pub counters : x ≤ length cs
+  pub pointers : suc x ≤ length fs
+
+pub pointed-digit : (n k : ℕ) (cs fs : List ℕ) {s x : ℕ} → StepAsked n k cs fs → s ≡ lowestDigit k → x ≡ place fs s → x ≢ n + 1 → Pointed n k s x cs fs
+pointed-digit n k cs fs asked s-is x-is ne =
+    let lent = asked .lent in
+    let digit = x-inside n k cs fs s-is x-is (asked .fine) ne in
+    let product = product-range (lent .sizes) (digit .0) (digit .1) in
+    record {
+      s-low = omega (arith, lowest-range k);
+      s-high = x-range n k cs fs s-is x-is (asked .fine) .0;
+      x-high = digit .1;
+      n-high = lent .sizes .n-high;
+      product-low = product .0;
+      product-high = product .1;
+      room = counter-room n k cs fs s-is x-is (asked .fine) ne;
+      counters = omega (arith, lent .counters);
+      pointers = omega (arith, lent .pointers);
+    }

@@ -13,7 +13,7 @@ use Rattle.arrangement.specs.Arrangement.{Cell, Valid}
 use Rattle.arrangement.specs.Flip.{raised}
 use Rattle.arrangement.proofs.Flips.{raised-lt}
 use Rattle.order.specs.Rank.{raisedBy, loweredBy, renamedModule, renamedSetting, restoredSetting, prefixModules, prefixSettings, rank, lastModules, lastSettings}
-use Rattle.order.proofs.Renaming.{lowered-raised, lowered-once-more, inc-lower-suc, lowered-back, raised-lowered, renamed-above, renamed-below, setting-above, setting-below, restored-renamed-setting}
+use Rattle.order.proofs.Renaming.{lowered-raised, lowered-once-more, raised-lowered-more, lowered-back, raised-lowered, renamed-above, renamed-below, setting-above, setting-below, restored-renamed-setting}
 use Rattle.order.proofs.Ranks.{rank-ext, rank-rest, prefix-valid, last, cell, k-low, not-last, rank-once-module, rank-once-setting}
 use Rattle.order.proofs.Digits.{Full}
 use Rattle.order.proofs.Steps.{rest-of-prefix, full-prefix, rank-last, valid-last, raised-to}
@@ -65,7 +65,7 @@ module _ {m k v c a s w t : ℕ} (L : Cell (suc m) k v c) (A : Cell (suc m) k a 
       (λ z. rw (expected-above k a s w z, expected-above k a' s' w' (omega arith), setting-above k v c w (raised k s) y, setting-above k v c a s x) (lowered-raised k s (suc c)))
       (λ z. rw (expected-below k a s w z, expected-below k a' s' w' (omega arith), setting-above k v c w s y, setting-above k v c a s x)))
       (λ y. let q = renamed-below (suc m) v w y (L .high) in
-      rw (expected-below k a s w (omega arith), expected-above k a' s' w' (omega arith), setting-below k v c w s (omega arith), setting-above k v c a s x) (sym (inc-lower-suc k s c (L .setting)))))
+      rw (expected-below k a s w (omega arith), expected-above k a' s' w' (omega arith), setting-below k v c w s (omega arith), setting-above k v c a s x) (sym (raised-lowered-more k s c (L .setting)))))
       (λ x. let p = renamed-below (suc m) v a x (L .high) in by-ne vw
       (λ y. let q = renamed-above (suc m) v w y in
       rw (expected-above k a s w (omega arith), expected-below k a' s' w' (omega arith), setting-above k v c w (raised k s) y, setting-below k v c a s (omega arith)) (lowered-once-more k s c (L .setting)))

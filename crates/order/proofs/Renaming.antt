@@ -23,9 +23,9 @@ module _ (k : ℕ) where
   unfolding loweredBy raised
   lowered-once-more s d h = simp mod-add-mod (ap (λ x. x % k) (omega arith))
 
-  pub inc-lower-suc : (s d : ℕ) → suc d ≤ k → raised k (loweredBy k s (suc d)) ≡ loweredBy k s d
+  pub raised-lowered-more : (s d : ℕ) → suc d ≤ k → raised k (loweredBy k s (suc d)) ≡ loweredBy k s d
   unfolding loweredBy raised
-  inc-lower-suc s d h = simp mod-add-mod (ap (λ x. x % k) (omega arith))
+  raised-lowered-more s d h = simp mod-add-mod (ap (λ x. x % k) (omega arith))
 
   round : {s : ℕ} → s < k → (s + k) % k ≡ s
   round h = add-mod-right _ _ ∙ mod-eq-of-lt h

@@ -1,10 +1,10 @@
 -- `board::step::step` meets its contract: it goes one of the three ways of the definition. What it puts fits, since the check has
 -- passed. Assumes nothing.
-use mathlib.Core.Path.{_≡_, _∙_}
-use Prim.Native.Nat.{ℕ, suc, _+_, _-_, _*_, _≤_, _<_}
+use Prim.Native.Nat.{_≤_, _<_}
 use native.Mathlib.Omega.{arith}
+use lib.ListN.{length}
 use Rattle.board.proofs.Runs.{lowest-range}
-use Rattle.board.proofs.Verdicts.{product-range, x-range, x-inside, counter-room, closing, gaining, filling}
+use Rattle.board.proofs.Verdicts.{Pointed, pointed-digit, closing, gaining, filling}
 use borrow.Author.Needs.{needs}
 use Rattle.board.proofs.step.step.Statement.{statement}
 use Rattle.board.proofs.step.step.Tie as tie
@@ -12,18 +12,29 @@ use Rattle.board.proofs.step.step.Tie as tie
 lowest-digit-requires : tie.Need-lowest-digit-requires
 lowest-digit-requires c κs = search needs
 
+-- the place s fits the pointers
+lowest-fits : (c : tie.After-lowest-digit) →
+    let a = c .before .before .before .args in (1 ≤ c .lowest-digit .result) × (c .lowest-digit .result ≤ length (a .pointers .now)) × (c .lowest-digit .result < 256)
+lowest-fits c =
+    let start = c .before .before .before in
+    omega (arith, lowest-range (start .args .k), c .lowest-digit .ensures, start .pre .lent .pointers, start .pre .lent .sizes .n-low)
+
+-- the digit that is pointed to
+digit : (c : tie.Else1) →
+    let a = c .before .before .before .before .before .before .args in
+    Pointed (a .n) (a .k) (c .before .before .before .lowest-digit .result) (c .before .place .result) (a .counters .now) (a .pointers .now)
+digit c =
+    let read = c .before in
+    pointed-digit _ _ _ _ (read .before .before .before .before .before .pre) (read .before .before .lowest-digit .ensures) (read .place .ensures .0) (c .if1 .left)
+
 place-requires : tie.Need-place-requires
-place-requires c κs =
-    let start = c .before .before .before .before in
-    omega (arith, lowest-range (start .args .k), c .before .lowest-digit .ensures, start .pre .lent .pointers, start .pre .lent .sizes .n-low)
+place-requires c κs = let fits = lowest-fits (c .before) in (fits .0, fits .1)
 
 add-if1 : tie.Need-add-if1
 add-if1 c = search needs
 
 put-requires : tie.Need-put-requires
-put-requires c κs =
-    let start = c .before .before .before .before .before .before .before in
-    omega (arith, lowest-range (start .args .k), c .before .before .before .before .lowest-digit .ensures, start .pre .lent .pointers, start .pre .lent .sizes .n-low)
+put-requires c κs = lowest-fits (c .before .before .before .before)
 
 same-length : tie.Need-same-length
 same-length c = search needs
@@ -36,61 +47,23 @@ returns c =
     closing _ _ _ _ (read .before .before .lowest-digit .ensures) (read .place .ensures .0) (start .pre .fine) (put-s .before .before .if1 .taken) (put-s .put .ensures)
 
 place-requires-2 : tie.Need-place-requires-2
-place-requires-2 c κs =
-    let read = c .before .before in
-    let start = read .before .before .before .before .before in
-    let s-is = read .before .before .lowest-digit .ensures in
-    let x-is = read .place .ensures .0 in
-    let fine = start .pre .fine in
-    let lent = start .pre .lent in
-    let outer = c .before .if1 .left in
-    let digit = x-inside _ _ _ _ s-is x-is fine outer in
-    omega (arith, lent .counters)
+place-requires-2 c κs = omega (arith, digit (c .before))
 
 add-counter : tie.Need-add-counter
 add-counter c = search needs
 
 mul-if2 : tie.Need-mul-if2
-mul-if2 c =
-    let read = c .before .before .before in
-    let start = read .before .before .before .before .before in
-    let s-is = read .before .before .lowest-digit .ensures in
-    let x-is = read .place .ensures .0 in
-    let fine = start .pre .fine in
-    let lent = start .pre .lent in
-    let outer = c .before .before .if1 .left in
-    let digit = x-inside _ _ _ _ s-is x-is fine outer in
-    omega (arith, product-range (lent .sizes) (digit .0) (digit .1))
+mul-if2 c = omega (arith, digit (c .before .before))
 
 sub-if2 : tie.Need-sub-if2
-sub-if2 c =
-    let read = c .before .before .before in
-    let start = read .before .before .before .before .before in
-    let s-is = read .before .before .lowest-digit .ensures in
-    let x-is = read .place .ensures .0 in
-    let fine = start .pre .fine in
-    let lent = start .pre .lent in
-    let outer = c .before .before .if1 .left in
-    let digit = x-inside _ _ _ _ s-is x-is fine outer in
-    omega (arith, product-range (lent .sizes) (digit .0) (digit .1))
+sub-if2 c = omega (arith, digit (c .before .before))
 
 put-requires-2 : tie.Need-put-requires-2
-put-requires-2 c κs =
-    let start = c .before .before .before .before .before .before .before .before .before .before in
-    omega (arith, lowest-range (start .args .k), c .before .before .before .before .before .before .before .lowest-digit .ensures, start .pre .lent .pointers, start .pre .lent .sizes .n-low)
+put-requires-2 c κs = lowest-fits (c .before .before .before .before .before .before .before)
 
 put-requires-3 : tie.Need-put-requires-3
 put-requires-3 c κs =
-    let read = c .before .before .before .before .before .before .before .before .before in
-    let start = read .before .before .before .before .before in
-    let s-is = read .before .before .lowest-digit .ensures in
-    let x-is = read .place .ensures .0 in
-    let fine = start .pre .fine in
-    let lent = start .pre .lent in
-    let outer = c .before .before .before .before .before .before .before .before .if1 .left in
-    let digit = x-inside _ _ _ _ s-is x-is fine outer in
-    let room = counter-room _ _ _ _ s-is x-is fine outer in
-    omega (arith, lent .counters, c .before .before .before .before .before .before .place2 .ensures .0, product-range (lent .sizes) (digit .0) (digit .1))
+    let counted = c .before .before .before .before .before .before in omega (arith, counted .place2 .ensures .0, digit (counted .before .before))
 
 same-length-2 : tie.Need-same-length-2
 same-length-2 c = search needs
@@ -109,22 +82,8 @@ returns-2 c =
 
 fill-requires : tie.Need-fill-requires
 fill-requires c κs =
-    let read = c .before .before .before .before .before .before in
-    let start = read .before .before .before .before .before in
-    let s-is = read .before .before .lowest-digit .ensures in
-    let x-is = read .place .ensures .0 in
-    let fine = start .pre .fine in
-    let lent = start .pre .lent in
-    let outer = c .before .before .before .before .before .if1 .left in
-    let digit = x-inside _ _ _ _ s-is x-is fine outer in
-    let range = x-range _ _ _ _ s-is x-is fine in
-    record {
-      s-low = omega (arith, lowest-range (start .args .k));
-      s-high = range .0;
-      x-high = omega (arith, lent .sizes .n-high);
-      counters = omega (arith, lent .counters);
-      pointers = omega (arith, lent .pointers);
-    }
+    let here = digit (c .before .before .before .before .before) in
+    record { s-low = here .s-low; s-high = here .s-high; x-high = omega arith; counters = here .counters; pointers = here .pointers }
 
 same-length-4 : tie.Need-same-length-4
 same-length-4 c = search needs
