@@ -76,3 +76,18 @@ const struct call board_step_call = {.name = "board step",
                                      .reference.changing = reference_board_step,
                                      .fair = random_board,
                                      .longer = {[POINTERS] = 1}};
+
+const struct call board_read_call = {.name = "board read",
+                                     .refusals = {1, 2, 3, 4, 10},
+                                     .library.reading = limpet_board_read,
+                                     .reference.reading = reference_board_read,
+                                     .fair = random_board,
+                                     .longer = {[POINTERS] = 1}};
+
+const struct call board_read_rank_call = {.name = "board read rank",
+                                          .refusals = {1, 2, 3, 4, 10},
+                                          .library.reading = limpet_board_read_rank,
+                                          .reference.reading = reference_board_read_rank,
+                                          .plain = true,
+                                          .fair = random_board,
+                                          .longer = {[POINTERS] = 1}};

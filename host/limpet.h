@@ -30,7 +30,7 @@
  *    7  a setting is k or more
  *    8  a rank is T or more
  *    9  a flip length is 0 or above n
- *   10  a board is false, as said with limpet_board_step
+ *   10  a board is false, as said with limpet_board_step and limpet_board_read
  *
  * The place of 5, 6 and 7 is the lowest bad slot, counted from 1; for 6 the lowest slot whose module
  * already stands in a lower slot. Each is tried over all slots before the next. The place of every other
@@ -115,6 +115,17 @@ uint64_t limpet_board_write(size_t n, size_t k, uint64_t rank, uint8_t *counters
  */
 uint64_t limpet_board_step(size_t n, size_t k, uint8_t *counters, size_t counters_length, uint8_t *pointers,
                            size_t pointers_length);
+
+/*
+ * Is what is lent the board of a rank? Looks at every byte. Value 0; the rank itself comes from
+ * limpet_board_read_rank. Refusals 1 to 4, then 10 where no rank has this board.
+ */
+uint64_t limpet_board_read(size_t n, size_t k, const uint8_t *counters, size_t counters_length,
+                           const uint8_t *pointers, size_t pointers_length);
+
+/* The plain number of the rank whose board this is, or 0 where limpet_board_read refuses. */
+uint64_t limpet_board_read_rank(size_t n, size_t k, const uint8_t *counters, size_t counters_length,
+                                const uint8_t *pointers, size_t pointers_length);
 
 #ifdef __cplusplus
 }

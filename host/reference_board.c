@@ -4,6 +4,7 @@
 #include "reference.h"
 
 #include <stdbool.h>
+#include <string.h>
 
 enum { DONE = 0, MOST_SLOTS = 20, CLOSED = 1 << 8 };
 
@@ -93,6 +94,68 @@ uint64_t reference_board_step(size_t n, size_t k, uint8_t *counters, size_t coun
     return answered(n | CLOSED);
 }
 
+/*
+ * The digits of a rank's board: full from a pointer's place up to where it points, else the counter. What is
+ * taken from a false board in this way has another board, or is out of range.
+ */
+static void digits_of_board(size_t n, size_t k, const uint8_t *counters, const uint8_t *pointers,
+                            unsigned *digits)
+{
+    size_t end = 0; /* the furthest place that a pointer so far points to */
+    for (size_t j = 1; j <= n; j++) {
+        if (j >= first_digit(k) && pointers[j - 1] > end)
+            end = pointers[j - 1];
+        digits[j - 1] = j < end ? (unsigned)(k * j - 1) : counters[j - 1];
+    }
+}
+
+/* Whether these are digits of a rank, and their board is this one. */
+static bool is_board_of(size_t n, size_t k, const unsigned *digits, const uint8_t *counters,
+                        const uint8_t *pointers)
+{
+    uint8_t own_counters[MOST_SLOTS], own_pointers[MOST_SLOTS + 1];
+    for (size_t j = 1; j <= n; j++)
+        if (digits[j - 1] >= k * j)
+            return false;
+    write_board_of_digits(n, k, digits, own_counters, own_pointers);
+    return memcmp(counters, own_counters, n) == 0 && memcmp(pointers, own_pointers, n + 1) == 0;
+}
+
+/* 1 to 4 and 10; the digits are worked out on the way. */
+static uint64_t check_board(size_t n, size_t k, const uint8_t *counters, size_t counters_length,
+                            const uint8_t *pointers, size_t pointers_length, unsigned *digits)
+{
+    const uint64_t answer = check_lengths(n, k, counters_length, pointers_length);
+    if (answer != DONE)
+        return answer;
+    digits_of_board(n, k, counters, pointers, digits);
+    return is_board_of(n, k, digits, counters, pointers) ? DONE : refused(10, 0);
+}
+
+static uint64_t rank_of_digits(size_t n, size_t k, const unsigned *digits)
+{
+    uint64_t rank = 0, weight = 1;
+    for (size_t j = 1; j <= n; weight *= k * j, j++)
+        rank += digits[j - 1] * weight;
+    return rank;
+}
+
+uint64_t reference_board_read(size_t n, size_t k, const uint8_t *counters, size_t counters_length,
+                              const uint8_t *pointers, size_t pointers_length)
+{
+    unsigned digits[MOST_SLOTS];
+    return check_board(n, k, counters, counters_length, pointers, pointers_length, digits);
+}
+
+uint64_t reference_board_read_rank(size_t n, size_t k, const uint8_t *counters, size_t counters_length,
+                                   const uint8_t *pointers, size_t pointers_length)
+{
+    unsigned digits[MOST_SLOTS];
+    if (check_board(n, k, counters, counters_length, pointers, pointers_length, digits) != DONE)
+        return 0;
+    return rank_of_digits(n, k, digits);
+}
+
 uint64_t unchecked_board_step(size_t n, size_t k, uint8_t *counters, size_t counters_length,
                               uint8_t *pointers, size_t pointers_length)
 {
@@ -108,4 +171,14 @@ uint64_t unchecked_board_step(size_t n, size_t k, uint8_t *counters, size_t coun
         pointers[x] = (uint8_t)(x + 1);
     }
     return answered(x);
+}
+
+uint64_t unchecked_board_read_rank(size_t n, size_t k, const uint8_t *counters, size_t counters_length,
+                                   const uint8_t *pointers, size_t pointers_length)
+{
+    unsigned digits[MOST_SLOTS];
+    (void)counters_length;
+    (void)pointers_length;
+    digits_of_board(n, k, counters, pointers, digits);
+    return rank_of_digits(n, k, digits);
 }

@@ -18,9 +18,18 @@ uint64_t reference_board_write(size_t n, size_t k, uint64_t rank, uint8_t *count
                                uint8_t *pointers, size_t pointers_length);
 uint64_t reference_board_step(size_t n, size_t k, uint8_t *counters, size_t counters_length,
                               uint8_t *pointers, size_t pointers_length);
+uint64_t reference_board_read(size_t n, size_t k, const uint8_t *counters, size_t counters_length,
+                              const uint8_t *pointers, size_t pointers_length);
+uint64_t reference_board_read_rank(size_t n, size_t k, const uint8_t *counters, size_t counters_length,
+                                   const uint8_t *pointers, size_t pointers_length);
 
-/* A turn of the loop of FLIPSEQ, Algorithm 2 of 000, to be timed: only a rank's board may be lent. */
+/*
+ * The same without a check, to be timed: only a rank's board may be lent. The step is a turn of the loop of
+ * FLIPSEQ, Algorithm 2 of 000.
+ */
 uint64_t unchecked_board_step(size_t n, size_t k, uint8_t *counters, size_t counters_length,
                               uint8_t *pointers, size_t pointers_length);
+uint64_t unchecked_board_read_rank(size_t n, size_t k, const uint8_t *counters, size_t counters_length,
+                                   const uint8_t *pointers, size_t pointers_length);
 
 #endif

@@ -1,7 +1,8 @@
-/* The tests of limpet_board_write and limpet_board_step. */
+/* The tests of limpet_board_write, limpet_board_step, limpet_board_read and limpet_board_read_rank. */
 #include "arrangements.h"
 #include "boards.h"
 #include "calls.h"
+#include "limpet.h"
 #include "reference.h"
 #include "reference_board.h"
 #include "refusals.h"
@@ -10,20 +11,39 @@
 
 enum { BEFORE_END = 3, AFTER_END = 3, AT_RANDOM = 300, DAMAGED = 500, MOST_DAMAGE = 3, CLOSED = 1 << 8 };
 
-/* Asks either call, knowing that the board has the rank that is its argument. */
-static void expect_board(const struct call *call, const struct asked *known)
+/* A round of at most SEARCHED ranks is searched through for the rank of a board. */
+enum { SEARCHED = 1000 };
+
+static void expect_written(const struct call *call, const struct asked *known)
+{
+    struct asked asked = *known;
+    scribble(&asked);
+    expect(call, &asked, 0, known);
+}
+
+static void expect_stepped(const struct call *call, const struct asked *known)
 {
     const size_t n = known->n, k = known->k;
     const uint64_t rank = known->argument, total = reference_round_total(n, k);
-    if (call == &board_write_call) {
-        struct asked asked = *known;
-        scribble(&asked);
-        expect(call, &asked, 0, known);
-        return;
-    }
     const struct asked next = board_of(n, k, (rank + 1) % total);
     const uint64_t closed = rank == total - 1 ? CLOSED : 0;
     expect(call, known, answered(flip_out_of(n, k, rank) | closed), &next);
+}
+
+static void expect_read(const struct call *call, const struct asked *known)
+{
+    expect(call, known, call->plain ? known->argument : 0, known);
+}
+
+/* Asks any of the calls, knowing that the board has the rank that is its argument. */
+static void expect_board(const struct call *call, const struct asked *known)
+{
+    if (call == &board_write_call)
+        expect_written(call, known);
+    else if (call == &board_step_call)
+        expect_stepped(call, known);
+    else
+        expect_read(call, known);
 }
 
 /*
@@ -94,6 +114,40 @@ static void any_rank(const struct call *call, size_t n, size_t k)
                   (which < n ? rank_with_full_digits(n, k, which + 1) : random_rank(n, k)).argument);
 }
 
+/* Whether the bytes are the board of the rank that is the argument. */
+static bool is_board(const struct asked *asked)
+{
+    const size_t n = asked->n;
+    uint8_t counters[LIMPET_MOST_SLOTS], pointers[LIMPET_MOST_SLOTS + 1];
+    reference_board_write(n, asked->k, asked->argument, counters, n, pointers, n + 1);
+    return memcmp(asked->lent[COUNTERS].bytes, counters, n) == 0 &&
+           memcmp(asked->lent[POINTERS].bytes, pointers, n + 1) == 0;
+}
+
+/* Asks either call that reads, knowing what a search through all ranks finds. */
+static void expect_found(const struct call *call, const struct asked *asked)
+{
+    const uint64_t total = reference_round_total(asked->n, asked->k);
+    struct asked known = *asked;
+    known.argument = 0;
+    while (known.argument < total && !is_board(&known))
+        known.argument++;
+    if (known.argument < total)
+        expect_read(call, &known);
+    else
+        expect_refused(call, &known, 10, 0);
+}
+
+/* Asks a call that is lent a board with what may be no rank's. */
+static void try_bytes(const struct call *call, const struct asked *bytes)
+{
+    struct asked asked = *bytes;
+    if (call == &board_step_call || reference_round_total(asked.n, asked.k) > SEARCHED)
+        ask(call, &asked);
+    else
+        expect_found(call, &asked);
+}
+
 /* The next bytes in a count through all: counters of 0..k*n and 255, pointers of 0..n+2 and 255. */
 static bool count_bytes(struct asked *asked)
 {
@@ -117,10 +171,21 @@ static void all_bytes(const struct call *call, size_t n, size_t k)
         return;
     memset(bytes.lent[COUNTERS].bytes, 0, n);
     memset(bytes.lent[POINTERS].bytes, 0, n + 1);
-    do {
-        struct asked asked = bytes;
-        ask(call, &asked);
-    } while (count_bytes(&bytes));
+    do
+        try_bytes(call, &bytes);
+    while (count_bytes(&bytes));
+}
+
+static void one_byte_changed(const struct call *call, size_t n, size_t k)
+{
+    const struct asked board = random_board(n, k);
+    for (size_t i = 0; i < ROWS; i++)
+        for (size_t place = 0; place < board.lent[i].length; place++)
+            for (unsigned value = 0; value <= 255; value++) {
+                struct asked asked = board;
+                asked.lent[i].bytes[place] = (uint8_t)value;
+                try_bytes(call, &asked);
+            }
 }
 
 static void damaged_boards(const struct call *call, size_t n, size_t k)
@@ -134,7 +199,7 @@ static void damaged_boards(const struct call *call, size_t n, size_t k)
             else
                 asked.lent[POINTERS].bytes[draw(n + 1)] = any;
         }
-        ask(call, &asked);
+        try_bytes(call, &asked);
     }
 }
 
@@ -170,13 +235,15 @@ static void step_three_ways(const struct call *call, struct walk *walk)
     ask(call, &walk->board);
 }
 
-/* From one number all ways go on: that of either arrangement, or the one that the walk has kept. */
+/* From one number all ways go on: that of either arrangement or of the board, or the one that was kept. */
 static void hand_over(struct walk *walk)
 {
-    struct asked *const from[] = {&walk->looked, &walk->counted};
-    const size_t which = draw(COUNT_OF(from) + 1);
-    if (which < COUNT_OF(from))
-        walk->rank = ask(&value_call, from[which]);
+    switch (draw(4)) {
+    case 0: walk->rank = ask(&value_call, &walk->looked); break;
+    case 1: walk->rank = ask(&value_call, &walk->counted); break;
+    case 2: walk->rank = ask(&board_read_rank_call, &walk->board); break;
+    default: break;
+    }
     walk->looked = walk->counted = numbered(walk);
     walk->board.argument = walk->rank;
     ask(&board_write_call, &walk->board);
@@ -198,20 +265,28 @@ static void three_ways(const struct call *call, size_t n, size_t k)
 
 void board_tests(void)
 {
+    static const struct call *const lent_a_board[] = {&board_step_call, &board_read_call,
+                                                      &board_read_rank_call};
     static const struct test of_each[] = {
         {"the boards of 000, appendix A", .once = published_boards},
         {"every rank, where T <= 50,000", .at_every_size = every_rank},
         {"the ranks T-3 to 2, across the end of the round", .at_every_size = across_the_end},
         {"ranks with every number of full digits, and at random", .at_every_size = any_rank},
     };
-    static const struct test of_step[] = {
+    static const struct test of_bytes[] = {
         {"all bytes for 1 and 2 slots, and for 3 with 1 setting", .at_every_size = all_bytes},
+        {"a board with one byte changed to every value", .at_every_size = one_byte_changed},
         {"damaged boards at random", .at_every_size = damaged_boards},
+    };
+    static const struct test of_step[] = {
         {"one walk by three ways, handed over at random, where T <= 50,000", .at_every_size = three_ways},
     };
     run_tests(&board_write_call, of_each, COUNT_OF(of_each));
     rank_refusal_tests(&board_write_call);
-    run_tests(&board_step_call, of_each, COUNT_OF(of_each));
+    for (size_t i = 0; i < COUNT_OF(lent_a_board); i++) {
+        run_tests(lent_a_board[i], of_each, COUNT_OF(of_each));
+        run_tests(lent_a_board[i], of_bytes, COUNT_OF(of_bytes));
+        refusal_tests(lent_a_board[i]);
+    }
     run_tests(&board_step_call, of_step, COUNT_OF(of_step));
-    refusal_tests(&board_step_call);
 }

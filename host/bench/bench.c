@@ -33,6 +33,8 @@ static const struct entry entries[] = {
     {.call = &unrank_call, .unchecked.writing = unchecked_unrank},
     {.call = &board_write_call},
     {.call = &board_step_call, .unchecked.changing = unchecked_board_step},
+    {.call = &board_read_call},
+    {.call = &board_read_rank_call, .unchecked.reading = unchecked_board_read_rank},
 };
 
 static const struct {
@@ -145,7 +147,7 @@ static void time_entry(const struct entry *entry, size_t n, size_t k)
     double best[COLUMNS];
     prepare(&prepared, entry->call, n, k);
     time_columns(columns, &prepared, best);
-    printf("%-12s %3zu %3zu %9.1f %9.1f %19.2f", entry->call->name, n, k, best[LIBRARY], best[PLAIN],
+    printf("%-15s %3zu %3zu %9.1f %9.1f %19.2f", entry->call->name, n, k, best[LIBRARY], best[PLAIN],
            best[LIBRARY] / best[PLAIN]);
     if (is_set(&entry->unchecked))
         printf(" %11.1f %21.2f", best[UNCHECKED], best[LIBRARY] / best[UNCHECKED]);
@@ -157,7 +159,7 @@ int main(void)
     printf("library  %s\n", LIBRARY_NAME);
     printf("plain C  the reference of the tests, by %s (%s)\n", PLAIN_COMPILER, __VERSION__);
     printf("ns per call, the best of %d rounds over %d random inputs, or steps of a walk\n\n", ROUNDS, INPUTS);
-    printf("%-12s %3s %3s %9s %9s %19s %11s %21s\n", "call", "n", "k", "library", "plain C",
+    printf("%-15s %3s %3s %9s %9s %19s %11s %21s\n", "call", "n", "k", "library", "plain C",
            "library / plain C", "unchecked C", "library / unchecked C");
     for (size_t i = 0; i < COUNT_OF(entries); i++)
         for (size_t j = 0; j < COUNT_OF(sizes); j++)

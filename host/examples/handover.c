@@ -2,7 +2,7 @@
  * Three machines share one round of 3 modules with 2 settings. They begin with a board, a number and a
  * saved arrangement:
  *
- *    the first   goes by the counters of a board, keeps its number as it steps, and hands that over
+ *    the first   goes by the counters of a board, and hands over the number that it reads off the board
  *    the second  begins with that number, goes by looking, and saves its arrangement
  *    the third   has the saved arrangement and nothing else, and goes by looking
  *
@@ -19,6 +19,10 @@ enum { N = 3, K = 2, TOTAL = 48, START = 40, STRETCH = TOTAL / 3 };
 
 struct arrangement {
     uint8_t modules[N], settings[N];
+};
+
+struct board {
+    uint8_t counters[N], pointers[N + 1];
 };
 
 static unsigned times_met[TOTAL];
@@ -46,6 +50,19 @@ static struct arrangement arrangement_of(uint64_t rank)
     return at;
 }
 
+static struct board board_of(uint64_t rank)
+{
+    struct board board;
+    value_of(limpet_board_write(N, K, rank, board.counters, N, board.pointers, N + 1));
+    return board;
+}
+
+static uint64_t rank_read_off(const struct board *board)
+{
+    value_of(limpet_board_read(N, K, board->counters, N, board->pointers, N + 1));
+    return limpet_board_read_rank(N, K, board->counters, N, board->pointers, N + 1);
+}
+
 static void meet(const struct arrangement *at, uint64_t flip)
 {
     const uint64_t rank = rank_of(at);
@@ -56,22 +73,20 @@ static void meet(const struct arrangement *at, uint64_t flip)
     printf("\n");
 }
 
-/* Walks a stretch by a board, from the rank on, and answers the rank that comes then. */
+/* Walks a stretch by a board, from the rank on, and answers the rank that comes then. It keeps no count. */
 static uint64_t walk_by_counters(uint64_t rank)
 {
     struct arrangement at = arrangement_of(rank);
-    uint8_t counters[N], pointers[N + 1];
-    value_of(limpet_board_write(N, K, rank, counters, sizeof counters, pointers, sizeof pointers));
+    struct board board = board_of(rank);
     for (int i = 0; i < STRETCH; i++) {
-        const uint64_t answer = limpet_board_step(N, K, counters, sizeof counters, pointers, sizeof pointers);
+        const uint64_t answer = limpet_board_step(N, K, board.counters, N, board.pointers, N + 1);
         value_of(answer);
         meet(&at, LIMPET_FLIP(answer));
         value_of(limpet_flip(N, K, LIMPET_FLIP(answer), at.modules, N, at.settings, N));
-        rank = LIMPET_CLOSED(answer) ? 0 : rank + 1;
         if (LIMPET_CLOSED(answer))
             printf("   the round closes, and begins again\n");
     }
-    return rank;
+    return rank_read_off(&board);
 }
 
 /* Walks a stretch by looking, and answers the arrangement that comes then. */

@@ -1,11 +1,11 @@
 -- The laws of a flip. The slot from which a module comes is linear in the slot to which it goes, and the same flip brings it
 -- back: so a flip moves each module once, and what was valid stays valid. Assumes nothing.
-use mathlib.Core.Path.{_≡_, sym, _∙_, ap}
-use Prim.Native.Nat.{ℕ, suc, _+_, _-_, _%_, _<_, _≤_}
+use mathlib.Core.Path.{_≡_, _∙_, ap}
+use Prim.Native.Nat.{ℕ, suc, _+_, _-_, _<_, _≤_}
 use native.Mathlib.Nat.{mod-lt, mod-eq-of-lt, mod-self}
 use native.Mathlib.Omega.{arith}
 use Rattle.rows.proofs.Cases.{by-lt, if-lt, if-ge}
-use Rattle.arrangement.specs.Arrangement.{Cell, Valid}
+use Rattle.arrangement.specs.Arrangement.{Valid}
 use Rattle.arrangement.specs.Flip.{raised, source, flippedModules, flippedSettings}
 
 -- ---- a setting raised by one

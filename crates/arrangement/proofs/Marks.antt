@@ -1,15 +1,14 @@
 -- The laws of the pass that marks the modules it has met. A module is marked exactly where it stands in a slot that was passed,
 -- so what is counted is each slot whose module already stands in a lower one. Assumes nothing.
-use mathlib.Core.Path.{_≡_, refl, sym, _∙_, ap}
-use mathlib.Core.Bool.{Bool, true, false, cond}
-use mathlib.Core.List.{List}
+use mathlib.Core.Path.{_≡_, refl, sym, _∙_}
+use mathlib.Core.Bool.{cond}
 use Prim.Native.Nat.{ℕ, zero, suc, _+_, _<_, _≤_}
 use native.Mathlib.Omega.{arith}
 use lib.Dec.{eqb, ltb}
-use lib.ListN.{set, replicate, getD-replicate}
+use lib.ListN.{set, getD-replicate}
 use lib.Seq.{ext-getD}
 use borrow.Author.Tests.{eq-eqb, ne-eqb, lt-ltb}
-use Rattle.rows.specs.Row.{at, row}
+use Rattle.rows.specs.Row.{row}
 use Rattle.rows.specs.Search.{lowest}
 use Rattle.rows.proofs.Cases.{by-test}
 use Rattle.rows.proofs.Rows.{length-row, at-row, set-row}

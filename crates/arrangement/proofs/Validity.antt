@@ -1,25 +1,23 @@
 -- A Fine verdict says that the arrangement is valid, and a valid arrangement has a Fine verdict: each of the three searches
 -- finds nothing exactly where its test holds at no slot. Home is valid at every size. Assumes nothing.
-use mathlib.Core.Path.{_≡_, refl, sym, _∙_, ap}
-use mathlib.Core.Bool.{Bool, true, false, not}
+use mathlib.Core.Path.{_≡_, sym, _∙_}
 use mathlib.Core.List.{List}
-use Prim.Native.Nat.{ℕ, suc, _<_, _≤_}
+use Prim.Native.Nat.{ℕ, _+_, _<_, _≤_}
 use native.Mathlib.Omega.{arith}
-use lib.Dec.{eqb, ltb, leb}
+use lib.Dec.{eqb}
 use lib.ListN.{length}
 use borrow.Author.Tests.{not-false, eqb-true, eqb-false, ne-eqb, ltb-false, leb-false, lt-leb}
 use Rattle.rows.specs.Row.{at}
-use Rattle.rows.specs.Search.{outside, lowest}
+use Rattle.rows.specs.Search.{lowest}
 use Rattle.rows.proofs.Cases.{by-lt, in-range, inside}
 use Rattle.rows.proofs.Searches.{none-holds, holds-nowhere, lowest-le}
-use Rattle.sizes.specs.declared.Verdict.{Verdict}
 use Rattle.sizes.specs.declared.Verdict.the-variants.{Fine}
 use Rattle.sizes.specs.Refusal.{first, refusedAt}
 use Rattle.sizes.specs.Sizes.{Permitted, sizesVerdict, mostSlots}
-use Rattle.sizes.proofs.Refusals.{both-fine, no-fault, no-place, faultless, Small, small-first, small-if, small-at}
+use Rattle.sizes.proofs.Refusals.{both-fine, no-fault, no-place, faultless, last-faultless, Small, small-first, small-if, small-at}
 use Rattle.sizes.proofs.Weights.{permitted, not-refused, small-sizes}
-use Rattle.arrangement.specs.Arrangement.{Cell, Valid, homeModules, homeSettings}
-use Rattle.arrangement.specs.Check.{lengthVerdict, badModule, repeated, badSetting, slotsVerdict, lentVerdict}
+use Rattle.arrangement.specs.Arrangement.{Valid, homeModules, homeSettings}
+use Rattle.arrangement.specs.Check.{lengthVerdict, buffersVerdict, badModule, repeated, badSetting, slotsVerdict, lentVerdict}
 use Rattle.arrangement.specs.Flip.{Flippable, flipLengthVerdict, flipVerdict}
 use Rattle.arrangement.proofs.Checks.{stands-once, right-length}
 
@@ -67,6 +65,32 @@ valid-ext {n} {k} {M} {S} {M'} {S'} same-M same-S v = record {
   once = λ i j hi hj e. v .once i j hi hj (same-M i hi ∙ e ∙ sym (same-M j hj));
 }
 
+-- ---- two lent buffers
+
+-- what the check of 1 to 4 lets pass
+pub record Fit (n k : ℕ) (xs : List ℕ) (more : ℕ) (ys : List ℕ) : Type 0 where
+  pub sizes : Permitted n k
+  pub one : length xs ≡ n
+  pub two : length ys ≡ n + more
+
+-- a buffer that is not refused has its length
+has-length : (n : ℕ) (xs : List ℕ) → lengthVerdict n xs ≡ Fine → length xs ≡ n
+unfolding lengthVerdict
+has-length n xs e = eqb-true (length xs) n (not-false _ (no-fault 4 _ e))
+
+pub fit : (n k : ℕ) (xs : List ℕ) (more : ℕ) (ys : List ℕ) → buffersVerdict n k xs more ys ≡ Fine → Fit n k xs more ys
+unfolding buffersVerdict
+fit n k xs more ys e =
+    let lengths = both-fine (sizesVerdict n k) _ e in
+    let both = both-fine (lengthVerdict n xs) _ (lengths .1) in
+    record { sizes = permitted n k (lengths .0); one = has-length n xs (both .0); two = has-length (n + more) ys (both .1) }
+
+-- and where all that holds, nothing is refused
+pub fit-fine : (n k : ℕ) (xs : List ℕ) (more : ℕ) (ys : List ℕ) → Fit n k xs more ys → Fine ≡ buffersVerdict n k xs more ys
+unfolding buffersVerdict lengthVerdict first
+fit-fine n k xs more ys f =
+    rw (← not-refused n k (f .sizes)) (faultless 4 (right-length _ _ (f .one)) (last-faultless 4 (right-length _ _ (f .two))))
+
 -- ---- an arrangement in two lent buffers
 
 pub record Accepted (n k : ℕ) (ms ss : List ℕ) : Type 0 where
@@ -75,31 +99,19 @@ pub record Accepted (n k : ℕ) (ms ss : List ℕ) : Type 0 where
   pub settings : length ss ≡ n
   pub valid-is : Valid n k (at ms) (at ss)
 
--- a buffer that is not refused has its length
-pub has-length : (n : ℕ) (xs : List ℕ) → lengthVerdict n xs ≡ Fine → length xs ≡ n
-unfolding lengthVerdict
-has-length n xs e = eqb-true (length xs) n (not-false _ (no-fault 4 _ e))
-
 pub accepted : (n k : ℕ) (ms ss : List ℕ) → lentVerdict n k ms ss ≡ Fine → Accepted n k ms ss
 unfolding lentVerdict
 accepted n k ms ss e =
-    let lengths = both-fine (sizesVerdict n k) _ e in
-    let second = both-fine (lengthVerdict n ms) _ (lengths .1) in
-    let slots = both-fine (lengthVerdict n ss) _ (second .1) in
-    record {
-      sizes = permitted n k (lengths .0);
-      modules = has-length n ms (second .0);
-      settings = has-length n ss (slots .0);
-      valid-is = valid n k (at ms) (at ss) (slots .1);
-    }
+    let both = both-fine (buffersVerdict n k ms 0 ss) _ e in
+    let lent = fit n k ms 0 ss (both .0) in
+    record { sizes = lent .sizes; modules = lent .one; settings = omega arith; valid-is = valid n k (at ms) (at ss) (both .1) }
 
 -- and where all that holds, nothing is refused
 pub accepted-fine : (n k : ℕ) (ms ss : List ℕ) → Accepted n k ms ss → Fine ≡ lentVerdict n k ms ss
-unfolding lentVerdict lengthVerdict first
+unfolding lentVerdict first
 accepted-fine n k ms ss a =
-    rw (← not-refused n k (a .sizes))
-    (faultless 4 (right-length _ _ (a .modules))
-    (faultless 4 (right-length _ _ (a .settings)) (valid-fine n k (at ms) (at ss) (a .valid-is))))
+    rw (← fit-fine n k ms 0 ss (record { sizes = a .sizes; one = a .modules; two = omega (arith, a .settings) }))
+    (valid-fine n k (at ms) (at ss) (a .valid-is))
 
 -- ---- a flip
 
@@ -142,12 +154,16 @@ small-slots n k M S h =
     (λ fine. small-first _ _ (small-at 6 _ (omega arith) (omega (arith, lowest-le (repeated M) n)))
     (λ fine. small-at 7 _ (omega arith) (omega (arith, lowest-le (badSetting k S) n))))
 
+pub small-buffers : (n k : ℕ) (xs : List ℕ) (more : ℕ) (ys : List ℕ) → Small (buffersVerdict n k xs more ys)
+unfolding buffersVerdict lengthVerdict
+small-buffers n k xs more ys =
+    small-first _ _ (small-sizes n k) (λ fine. small-first _ _ (small-if 4 _ (omega arith)) (λ fine. small-if 4 _ (omega arith)))
+
 pub small-lent : (n k : ℕ) (ms ss : List ℕ) → Small (lentVerdict n k ms ss)
-unfolding lentVerdict lengthVerdict
+unfolding lentVerdict
 small-lent n k ms ss =
-    small-first _ _ (small-sizes n k)
-    (λ sizes. small-first _ _ (small-if 4 _ (omega arith))
-    (λ fine. small-first _ _ (small-if 4 _ (omega arith)) (λ fine. small-slots n k (at ms) (at ss) (permitted n k sizes .n-high))))
+    small-first _ _ (small-buffers n k ms 0 ss)
+    (λ fine. small-slots n k (at ms) (at ss) (fit n k ms 0 ss fine .sizes .n-high))
 
 pub small-flip : (n k j : ℕ) (ms ss : List ℕ) → Small (flipVerdict n k j ms ss)
 unfolding flipVerdict flipLengthVerdict

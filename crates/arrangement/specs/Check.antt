@@ -1,6 +1,6 @@
 -- 01, "Numbers of refusal", 4 to 7: the check of an arrangement. Numbers 5, 6 and 7 are each tried over all slots before the
 -- next, and their place is the lowest bad slot, counted from 1.
-use Prim.Native.Nat.{ℕ, _≤_, _<_}
+use Prim.Native.Nat.{ℕ, _+_, _≤_, _<_}
 use mathlib.Core.Bool.{Bool, not}
 use mathlib.Core.List.{List}
 use lib.Dec.{eqb, leb, ltb}
@@ -15,6 +15,10 @@ use Rattle.arrangement.specs.Copy.{wide}
 -- 4: a lent buffer that should have n bytes hasn't
 unfoldable pub lengthVerdict : ℕ → List ℕ → Verdict
 lengthVerdict n xs = refusedIf 4 (not (eqb (length xs) n))
+
+-- the check of n and k and of two lent buffers, the first of n bytes and the second of so many more: 1 to 4
+unfoldable pub buffersVerdict : ℕ → ℕ → List ℕ → ℕ → List ℕ → Verdict
+buffersVerdict n k xs more ys = first (sizesVerdict n k) (first (lengthVerdict n xs) (lengthVerdict (n + more) ys))
 
 -- 5: the module in slot i is outside 1..n
 unfoldable pub badModule : ℕ → (ℕ → ℕ) → ℕ → Bool
@@ -41,6 +45,4 @@ slotsVerdict n k M S =
 
 -- the check of n and k and of an arrangement in two lent buffers: 1 to 7
 unfoldable pub lentVerdict : ℕ → ℕ → List ℕ → List ℕ → Verdict
-lentVerdict n k ms ss =
-    first (sizesVerdict n k)
-    (first (lengthVerdict n ms) (first (lengthVerdict n ss) (slotsVerdict n k (at ms) (at ss))))
+lentVerdict n k ms ss = first (buffersVerdict n k ms 0 ss) (slotsVerdict n k (at ms) (at ss))

@@ -10,7 +10,7 @@ ghost use Rattle.rows.specs.Row.{at};
 ghost use Rattle.rows.specs.Search.{outside, lowest};
 ghost use Rattle.sizes.specs.Sizes.{mostSlots};
 ghost use Rattle.sizes.specs.Refusal.{refusedAt};
-ghost use Rattle.arrangement.specs.Check.{repeated, slotsVerdict, lentVerdict, Marked};
+ghost use Rattle.arrangement.specs.Check.{repeated, buffersVerdict, slotsVerdict, lentVerdict, Marked};
 
 // The lowest slot whose byte is below `low` or above `high`.
 fn first_outside(low: usize, high: usize, slots: &[u8]) -> usize
@@ -105,19 +105,32 @@ pub fn judge_slots(n: usize, k: usize, modules: &[u8], settings: &[u8]) -> Verdi
     refused_at(7, first_outside(0, k - 1, settings))
 }
 
-// The check of any n and k and of an arrangement in any two lent buffers.
-pub fn judge(n: usize, k: usize, modules: &[u8], settings: &[u8]) -> Verdict
-    ensures { λ r. ⌜ r ≡ lentVerdict n k (now (modules .entry)) (now (settings .entry)) ⌝ }
+// The check of any n and k and of any two lent buffers, of which the second should have `more` bytes
+// more than the first.
+pub fn judge_buffers(n: usize, k: usize, first: &[u8], more: usize, second: &[u8]) -> Verdict
+    requires { ⌜ more ≤ 1 ⌝ }
+    ensures { λ r. ⌜ r ≡ buffersVerdict n k (now (first .entry)) more (now (second .entry)) ⌝ }
 {
     let size = sizes::judge(n, k);
     if size.refuses() {
         return size;
     }
-    if modules.len() != n {
+    if first.len() != n {
         return Verdict::Refused(4, 0);
     }
-    if settings.len() != n {
+    if second.len() != n + more {
         return Verdict::Refused(4, 0);
+    }
+    Verdict::Fine
+}
+
+// The check of any n and k and of an arrangement in any two lent buffers.
+pub fn judge(n: usize, k: usize, modules: &[u8], settings: &[u8]) -> Verdict
+    ensures { λ r. ⌜ r ≡ lentVerdict n k (now (modules .entry)) (now (settings .entry)) ⌝ }
+{
+    let lent = judge_buffers(n, k, modules, 0, settings);
+    if lent.refuses() {
+        return lent;
     }
     judge_slots(n, k, modules, settings)
 }

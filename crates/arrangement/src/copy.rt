@@ -4,7 +4,7 @@ ghost use Prim.Native.Nat.{_≤_};
 ghost use lib.ListN.{length};
 ghost use Rattle.rows.specs.Row.{at, front};
 ghost use Rattle.sizes.specs.Sizes.{mostSlots};
-ghost use Rattle.arrangement.specs.Copy.{blank};
+ghost use Rattle.arrangement.specs.Copy.{wide, blank};
 
 // Places enough for any arrangement, and as many as fill whole vector registers: a loop over all of
 // them has no rest to go through byte by byte.
@@ -26,7 +26,7 @@ pub fn load(slots: &[u8]) -> [u8; WIDE]
 
 // Writes the first n bytes of a copy over those of a row.
 pub fn store(n: usize, copy: [u8; WIDE], slots: &mut [u8])
-    requires { ⌜ (n ≤ mostSlots) × (n ≤ length (now slots)) ⌝ }
+    requires { ⌜ (n ≤ wide) × (n ≤ length (now slots)) ⌝ }
     ensures { λ _. ⌜ now (slots .exit) ≡ front (at copy) n (now (slots .entry)) ⌝ }
 {
     let mut i = 0;

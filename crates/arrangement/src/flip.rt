@@ -7,7 +7,7 @@ ghost use mathlib.Core.Path.{_≡_};
 ghost use Prim.Native.Nat.{_≤_, _<_};
 ghost use lib.ListN.{length};
 ghost use Rattle.rows.specs.Row.{at, row, front};
-ghost use Rattle.sizes.specs.Sizes.{mostSlots, mostSettings};
+ghost use Rattle.sizes.specs.Sizes.{mostSettings};
 ghost use Rattle.arrangement.specs.Copy.{blank};
 ghost use Rattle.arrangement.specs.Flip.{raised, flippedModules, flippedSettings, flipVerdict, Flippable};
 

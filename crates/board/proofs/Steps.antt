@@ -1,28 +1,25 @@
 -- One step of the board of a rank: it is not refused, its flip is the flip out of that rank, and it leaves the board of the next
 -- rank. What it reads at s is x, the lowest digit that is not full, and what it writes at s, x and x + 1 is all that changes.
 -- Assumes nothing.
-use mathlib.Core.Path.{_≡_, refl, sym, ap, _∙_}
-use mathlib.Core.Bool.{Bool, true, false, cond}
+use mathlib.Core.Path.{_≡_, sym, ap, _∙_}
+use mathlib.Core.Bool.{Bool, true, false}
 use mathlib.Core.Logic.{_≢_, _↔_}
 use mathlib.Core.List.{List}
-use Prim.Native.Nat.{ℕ, zero, suc, _+_, _-_, _*_, _≤_, _<_}
-use native.Mathlib.Nat.{le-refl}
+use Prim.Native.Nat.{ℕ, suc, _-_, _*_, _≤_, _<_}
 use native.Mathlib.Omega.{arith}
-use lib.Dec.{eqb}
 use lib.ListN.{length, set, length-set}
 use lib.Seq.{getD-set-same, getD-set-other, ext-getD}
-use borrow.Author.Tests.{eqb-true, eqb-false, eq-eqb, ne-eqb, lt-leb}
+use borrow.Author.Tests.{eq-eqb, ne-eqb, lt-leb}
 use Rattle.rows.specs.Row.{at, row}
 use Rattle.rows.proofs.Cases.{by-eq, by-lt, in-range}
 use Rattle.rows.proofs.Rows.{length-row, at-row, row-ext, set-row}
-use Rattle.sizes.specs.declared.Verdict.{Verdict}
 use Rattle.sizes.specs.declared.Verdict.the-variants.{Fine}
 use Rattle.sizes.specs.Sizes.{weight}
 use Rattle.sizes.proofs.Refusals.{faultless, last-faultless}
 use Rattle.order.specs.Digits.{digit, flipOut, nextRank}
-use Rattle.board.specs.Board.{lowestDigit, full, counter, runEnd, pointer, IsBoard}
-use Rattle.board.specs.Step.{place, put, pointed, closes, stepFlip, fills, counterVerdict, stepVerdict, steppedCounters, steppedPointers}
-use Rattle.board.proofs.Runs.{lowest-range, run-range, pointer-plain, pointer-end}
+use Rattle.board.specs.Board.{place, lowestDigit, counter, runEnd, pointer, counters, pointers, IsBoard}
+use Rattle.board.specs.Step.{put, pointed, closes, stepFlip, fills, counterVerdict, stepVerdict, steppedCounters, steppedPointers}
+use Rattle.board.proofs.Runs.{back, lowest-range, run-range, pointer-plain, pointer-end, counter-place, pointer-place}
 use Rattle.board.proofs.Turns.{Turning, s-low, points, counter-at, counter-filled, counter-more, counter-stays, pointer-lower, pointer-now-lower, pointer-far, pointer-next, pointer-joined, pointer-parted, pointer-own, pointer-next-stays, was-open, next-inside, next-closes, by-turning, turning-flip, turning-closes}
 
 -- a row with three places written over, one after the other
@@ -55,16 +52,11 @@ three-written f g n a b c u v w ha hb hc bc w-is v-is u-is rest =
     zs-long = length-set ys c w ∙ ys-long
 
 module _ {n k r x : ℕ} {cs fs : List ℕ} (k-low : 1 ≤ k) (n-low : 1 ≤ n) (r-low : r < weight n k) (board : IsBoard n k r cs fs) (turns : Turning n k r x) where
-  back : (j : ℕ) → 1 ≤ j → suc (j - 1) ≡ j
-  back j a = omega arith
+  counter-of : (j : ℕ) → 1 ≤ j → j ≤ n → place cs j ≡ counter k (digit k r) j
+  counter-of j a b = ap (λ ys. place ys j) (board .counters-are) ∙ counter-place n k _ j a b
 
-  counter-of : (j : ℕ) → 1 ≤ j → j ≤ n → place cs j ≡ counter k r j
-  counter-of j a b =
-      ap (λ ys. at ys (j - 1)) (board .counters) ∙ at-row (λ i. counter k r (suc i)) n (j - 1) (omega arith) ∙ ap (counter k r) (back j a)
-
-  pointer-of : (j : ℕ) → 1 ≤ j → j ≤ suc n → place fs j ≡ pointer n k r j
-  pointer-of j a b =
-      ap (λ ys. at ys (j - 1)) (board .pointers) ∙ at-row (λ i. pointer n k r (suc i)) (suc n) (j - 1) (omega arith) ∙ ap (pointer n k r) (back j a)
+  pointer-of : (j : ℕ) → 1 ≤ j → j ≤ suc n → place fs j ≡ pointer n k (digit k r) j
+  pointer-of j a b = ap (λ ys. place ys j) (board .pointers-are) ∙ pointer-place n k _ j a b
 
   pub pointed-is : pointed k fs ≡ x
   unfolding pointed
@@ -96,8 +88,8 @@ module _ {n k r x : ℕ} {cs fs : List ℕ} (k-low : 1 ≤ k) (n-low : 1 ≤ n) 
 
   behind-range : x ≤ n → (suc x ≤ place fs (suc x)) × (place fs (suc x) ≤ suc n)
   behind-range inside =
-      let e : place fs (suc x) ≡ runEnd (n - x) k r (suc x) = pointer-of (suc x) (omega arith) (omega arith) ∙ pointer-next k-low n-low r-low turns inside in
-      omega (arith, run-range (n - x) k r (suc x))
+      let e : place fs (suc x) ≡ runEnd (n - x) k (digit k r) (suc x) = pointer-of (suc x) (omega arith) (omega arith) ∙ pointer-next k-low n-low r-low turns inside in
+      omega (arith, run-range (n - x) k (digit k r) (suc x))
 
   fine-inside : x ≤ n → Fine ≡ counterVerdict n k x cs fs
   unfolding counterVerdict
@@ -134,18 +126,19 @@ module _ {n k r x : ℕ} {cs fs : List ℕ} (k-low : 1 ≤ k) (n-low : 1 ≤ n) 
 
   -- ---- what it leaves
 
-  counters-written : (v : ℕ) → x ≤ n → v ≡ counter k (nextRank n k r) x → put cs x v ≡ row (λ i. counter k (nextRank n k r) (suc i)) n
+  counters-written : (v : ℕ) → x ≤ n → v ≡ counter k (digit k (nextRank n k r)) x → put cs x v ≡ counters n k (digit k (nextRank n k r))
+  unfolding counters
   counters-written v inside v-is =
-      ap (λ ys. set ys (x - 1) v) (board .counters) ∙
-      set-row (λ i. counter k r (suc i)) (λ i. counter k (nextRank n k r) (suc i)) n (x - 1) v (omega (arith, turns .one))
-      (v-is ∙ ap (counter k (nextRank n k r)) (sym (back x (turns .one))))
+      ap (λ ys. set ys (x - 1) v) (board .counters-are) ∙
+      set-row (λ i. counter k (digit k r) (suc i)) (λ i. counter k (digit k (nextRank n k r)) (suc i)) n (x - 1) v (omega (arith, turns .one))
+      (v-is ∙ ap (counter k (digit k (nextRank n k r))) (sym (back x (turns .one))))
       (λ i l ne. counter-stays k-low n-low r-low turns (suc i) (omega arith) l (λ e. ne (omega (arith, turns .one))))
 
-  pub counters-after : steppedCounters n k cs fs ≡ row (λ i. counter k (nextRank n k r) (suc i)) n
-  unfolding steppedCounters
+  pub counters-after : steppedCounters n k cs fs ≡ counters n k (digit k (nextRank n k r))
+  unfolding steppedCounters counters
   counters-after =
       by-lt n x
-      (λ g. rw (closes-so (omega (arith, turns .most))) (board .counters ∙
+      (λ g. rw (closes-so (omega (arith, turns .most))) (board .counters-are ∙
       row-ext _ _ n (λ i l. counter-stays k-low n-low r-low turns (suc i) (omega arith) l (λ e. omega arith))))
       (λ g. by-eq (suc (digit k r x)) (k * x - 1)
       (λ e. rw (closes-not g, pointed-is, fills-so g e) (counters-written 0 g (sym (counter-filled k-low n-low r-low turns g e))))
@@ -153,7 +146,7 @@ module _ {n k r x : ℕ} {cs fs : List ℕ} (k-low : 1 ≤ k) (n-low : 1 ≤ n) 
       (counters-written _ g (ap suc (counter-is g) ∙ sym (counter-more k-low n-low r-low turns g e)))))
 
   -- the places other than s, x and x + 1
-  elsewhere : (i : ℕ) → i < suc n → i ≢ lowestDigit k - 1 → i ≢ x - 1 → i ≢ x → pointer n k r (suc i) ≡ pointer n k (nextRank n k r) (suc i)
+  elsewhere : (i : ℕ) → i < suc n → i ≢ lowestDigit k - 1 → i ≢ x - 1 → i ≢ x → pointer n k (digit k r) (suc i) ≡ pointer n k (digit k (nextRank n k r)) (suc i)
   elsewhere i l na nb nc =
       by-lt (suc i) x
       (λ g. pointer-lower k-low n-low r-low turns (suc i) (omega arith) g (λ e. na (omega (arith, lowest-range k))) ∙ sym (pointer-now-lower k-low n-low r-low turns (suc i) g))
@@ -162,48 +155,48 @@ module _ {n k r x : ℕ} {cs fs : List ℕ} (k-low : 1 ≤ k) (n-low : 1 ≤ n) 
       (λ h. sym (pointer-far k-low n-low r-low turns h (suc i) (omega (arith, turns .one)))))
 
   now-pointer : ℕ → ℕ
-  now-pointer i = pointer n k (nextRank n k r) (suc i)
+  now-pointer i = pointer n k (digit k (nextRank n k r)) (suc i)
 
-  now-at : (j p : ℕ) → 1 ≤ j → pointer n k (nextRank n k r) j ≡ p → p ≡ now-pointer (j - 1)
-  now-at j p a e = unfold now-pointer in sym e ∙ ap (pointer n k (nextRank n k r)) (sym (back j a))
+  now-at : (j p : ℕ) → 1 ≤ j → pointer n k (digit k (nextRank n k r)) j ≡ p → p ≡ now-pointer (j - 1)
+  now-at j p a e = unfold now-pointer in sym e ∙ ap (pointer n k (digit k (nextRank n k r))) (sym (back j a))
 
   -- f_s becomes s, and nothing else changes
-  only-s : pointer n k (nextRank n k r) (lowestDigit k) ≡ lowestDigit k →
-      ((i : ℕ) → i < suc n → i ≢ lowestDigit k - 1 → pointer n k r (suc i) ≡ pointer n k (nextRank n k r) (suc i)) →
-      put fs (lowestDigit k) (lowestDigit k) ≡ row (λ i. pointer n k (nextRank n k r) (suc i)) (suc n)
-  unfolding now-pointer
+  only-s : pointer n k (digit k (nextRank n k r)) (lowestDigit k) ≡ lowestDigit k →
+      ((i : ℕ) → i < suc n → i ≢ lowestDigit k - 1 → pointer n k (digit k r) (suc i) ≡ pointer n k (digit k (nextRank n k r)) (suc i)) →
+      put fs (lowestDigit k) (lowestDigit k) ≡ pointers n k (digit k (nextRank n k r))
+  unfolding now-pointer pointers
   only-s here rest =
-      ap (λ ys. set ys (lowestDigit k - 1) (lowestDigit k)) (board .pointers) ∙
-      set-row (λ i. pointer n k r (suc i)) now-pointer (suc n) (lowestDigit k - 1) (lowestDigit k) (omega (arith, lowest-range k))
+      ap (λ ys. set ys (lowestDigit k - 1) (lowestDigit k)) (board .pointers-are) ∙
+      set-row (λ i. pointer n k (digit k r) (suc i)) now-pointer (suc n) (lowestDigit k - 1) (lowestDigit k) (omega (arith, lowest-range k))
       (now-at (lowestDigit k) _ (lowest-range k .0) here) rest
 
-  pointers-closing : x ≡ suc n → put fs (lowestDigit k) (lowestDigit k) ≡ row (λ i. pointer n k (nextRank n k r) (suc i)) (suc n)
+  pointers-closing : x ≡ suc n → put fs (lowestDigit k) (lowestDigit k) ≡ pointers n k (digit k (nextRank n k r))
   pointers-closing e =
       only-s
       (by-lt (lowestDigit k) x (pointer-now-lower k-low n-low r-low turns (lowestDigit k))
       (λ g. let z : lowestDigit k ≡ suc n = omega (arith, s-low k-low n-low r-low turns) in rw z (pointer-end n k _)))
       (λ i l ne. by-lt (suc i) x
       (λ g. pointer-lower k-low n-low r-low turns (suc i) (omega arith) g (λ q. ne (omega (arith, lowest-range k))) ∙ sym (pointer-now-lower k-low n-low r-low turns (suc i) g))
-      (λ g. let z : i ≡ n = omega arith in rw z (pointer-end n k r ∙ sym (pointer-end n k _))))
+      (λ g. let z : i ≡ n = omega arith in rw z (pointer-end n k (digit k r) ∙ sym (pointer-end n k _))))
 
-  pointers-open : x ≤ n → suc (digit k r x) ≢ k * x - 1 → put fs (lowestDigit k) (lowestDigit k) ≡ row (λ i. pointer n k (nextRank n k r) (suc i)) (suc n)
+  pointers-open : x ≤ n → suc (digit k r x) ≢ k * x - 1 → put fs (lowestDigit k) (lowestDigit k) ≡ pointers n k (digit k (nextRank n k r))
   pointers-open inside e =
       only-s
       (by-lt (lowestDigit k) x (pointer-now-lower k-low n-low r-low turns (lowestDigit k))
       (λ g. let z : lowestDigit k ≡ x = omega (arith, s-low k-low n-low r-low turns) in rw z (pointer-own k-low n-low r-low turns inside e)))
       (λ i l ne. by-eq i (x - 1)
       (λ z. let y : suc i ≡ x = omega (arith, turns .one) in
-      rw y (pointer-plain n k r x (was-open k-low n-low r-low turns inside) ∙ sym (pointer-own k-low n-low r-low turns inside e)))
+      rw y (pointer-plain n k (digit k r) x (was-open k-low n-low r-low turns inside) ∙ sym (pointer-own k-low n-low r-low turns inside e)))
       (λ nb. by-eq i x (λ z. rw z (sym (pointer-next-stays k-low n-low r-low turns inside e))) (λ nc. elsewhere i l ne nb nc)))
 
   pointers-filled : x ≤ n → suc (digit k r x) ≡ k * x - 1 →
-      put (put (put fs (lowestDigit k) (lowestDigit k)) x (place fs (suc x))) (suc x) (suc x) ≡ row (λ i. pointer n k (nextRank n k r) (suc i)) (suc n)
-  unfolding now-pointer
+      put (put (put fs (lowestDigit k) (lowestDigit k)) x (place fs (suc x))) (suc x) (suc x) ≡ pointers n k (digit k (nextRank n k r))
+  unfolding now-pointer pointers
   pointers-filled inside e =
       let one = turns .one in
       let c-is : suc x - 1 ≡ x = omega arith in
-      ap (λ ys. put (put (put ys (lowestDigit k) (lowestDigit k)) x (place fs (suc x))) (suc x) (suc x)) (board .pointers) ∙
-      three-written (λ i. pointer n k r (suc i)) now-pointer (suc n) (lowestDigit k - 1) (x - 1) (suc x - 1) (lowestDigit k) (place fs (suc x)) (suc x)
+      ap (λ ys. put (put (put ys (lowestDigit k) (lowestDigit k)) x (place fs (suc x))) (suc x) (suc x)) (board .pointers-are) ∙
+      three-written (λ i. pointer n k (digit k r) (suc i)) now-pointer (suc n) (lowestDigit k - 1) (x - 1) (suc x - 1) (lowestDigit k) (place fs (suc x)) (suc x)
       (omega (arith, lowest-range k)) (omega arith) (omega arith) (λ z. omega arith)
       (now-at (suc x) (suc x) (omega arith) (pointer-parted k-low n-low r-low turns inside e))
       (now-at x (place fs (suc x)) one (pointer-joined k-low n-low r-low turns inside e ∙ sym (pointer-of (suc x) (omega arith) (omega arith))))
@@ -214,7 +207,7 @@ module _ {n k r x : ℕ} {cs fs : List ℕ} (k-low : 1 ≤ k) (n-low : 1 ≤ n) 
       below-x : lowestDigit k - 1 ≢ x - 1 → lowestDigit k < x
       below-x ne = by-lt (lowestDigit k) x (λ l. l) (λ l. let z : lowestDigit k ≡ x = omega (arith, s-low k-low n-low r-low turns) in absurd (ne (ap (λ y. y - 1) z)))
 
-  pub pointers-after : steppedPointers n k cs fs ≡ row (λ i. pointer n k (nextRank n k r) (suc i)) (suc n)
+  pub pointers-after : steppedPointers n k cs fs ≡ pointers n k (digit k (nextRank n k r))
   unfolding steppedPointers
   pointers-after =
       by-lt n x
@@ -229,8 +222,8 @@ module _ {n k r : ℕ} {cs fs : List ℕ} (k-low : 1 ≤ k) (n-low : 1 ≤ n) (r
   -- the step leaves the board of the next rank
   pub step-board : IsBoard n k (nextRank n k r) (steppedCounters n k cs fs) (steppedPointers n k cs fs)
   step-board = by-turning n k r k-low n-low (λ x turns. record {
-    counters = counters-after k-low n-low r-low board turns;
-    pointers = pointers-after k-low n-low r-low board turns;
+    counters-are = counters-after k-low n-low r-low board turns;
+    pointers-are = pointers-after k-low n-low r-low board turns;
   })
 
   -- it is never refused

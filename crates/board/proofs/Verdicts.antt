@@ -1,7 +1,7 @@
 -- What the checks of a step come to, one comparison after the other, and what a step that is not refused may rely on. Each
 -- comparison decides one test of the definition. Assumes nothing.
 use mathlib.Core.Path.{_≡_, refl, sym, ap, ap₂, _∙_}
-use mathlib.Core.Bool.{Bool, true, false, cond}
+use mathlib.Core.Bool.{true, false}
 use mathlib.Core.Logic.{_≢_}
 use mathlib.Core.List.{List}
 use Prim.Native.Nat.{ℕ, suc, _+_, _-_, _*_, _≤_, _<_}
@@ -15,17 +15,16 @@ use Rattle.rows.specs.Search.{outside}
 use Rattle.rows.proofs.Cases.{by-eq, by-test, below-range, above-range, in-range, inside}
 use Rattle.sizes.specs.declared.Verdict.{Verdict}
 use Rattle.sizes.specs.declared.Verdict.the-variants.{Fine, Refused}
-use Rattle.sizes.specs.Refusal.{refusedIf, first, numberOf, placeOf}
-use Rattle.sizes.specs.Sizes.{Permitted, sizesVerdict, mostSlots}
+use Rattle.sizes.specs.Refusal.{refusedIf, numberOf, placeOf}
+use Rattle.sizes.specs.Sizes.{Permitted, mostSlots}
 use Rattle.sizes.proofs.Refusals.{faulty, faultless, last-faulty, last-faultless, both-fine, no-fault, Small, small-first, small-if}
-use Rattle.sizes.proofs.Weights.{permitted, small-sizes}
-use Rattle.arrangement.specs.Check.{lengthVerdict}
-use Rattle.arrangement.proofs.Validity.{has-length}
+use Rattle.arrangement.specs.Check.{buffersVerdict}
+use Rattle.arrangement.proofs.Validity.{Fit, fit, small-buffers}
 use Rattle.order.specs.Check.{lentRankVerdict}
 use Rattle.order.proofs.Checks.{rank-accepted}
-use Rattle.board.specs.Board.{lowestDigit}
-use Rattle.board.specs.Step.{place, put, pointed, closes, stepFlip, fills, counterVerdict, stepVerdict, lentStepVerdict, steppedCounters, steppedPointers}
-use Rattle.board.specs.Asked.{StepAsked, BoardAsked}
+use Rattle.board.specs.Board.{place, lowestDigit}
+use Rattle.board.specs.Step.{put, pointed, closes, stepFlip, fills, counterVerdict, stepVerdict, lentStepVerdict, steppedCounters, steppedPointers}
+use Rattle.board.specs.Asked.{LentBoard, StepAsked, BoardAsked}
 use Rattle.board.proofs.Runs.{lowest-range}
 
 -- k × x, of a digit x
@@ -84,22 +83,21 @@ module _ (n k : ℕ) (cs fs : List ℕ) {s x : ℕ} (s-is : s ≡ lowestDigit k)
   points-low l = faulty 10 _ (below-range (lowestDigit k) (suc n) (pointed k fs) (omega (arith, x-there, s-is)))
 
   module _ (low : s ≤ x) where
-    pub points-high : n + 1 < x → Refused 10 0 ≡ stepVerdict n k cs fs
+    in-board : x ≤ n + 1 → outside (lowestDigit k) (suc n) (pointed k fs) ≡ false
+    in-board high = in-range (lowestDigit k) (suc n) (pointed k fs) (omega (arith, x-there, s-is)) (omega (arith, x-there))
+
+    pub points-to : {w : Verdict} → x ≤ n → w ≡ counterVerdict n k x cs fs → w ≡ stepVerdict n k cs fs
+    unfolding stepVerdict closes
+    points-to l w-is = faultless 10 (in-board (omega arith))
+        (rw (ne-eqb (pointed k fs) (suc n) (λ e. omega (arith, x-there))) (w-is ∙ ap (λ z. counterVerdict n k z cs fs) x-there))
+
+    pub points-behind : x ≡ n + 1 → Fine ≡ stepVerdict n k cs fs
+    unfolding stepVerdict closes
+    points-behind e = faultless 10 (in-board (omega arith)) (rw (eq-eqb (pointed k fs) (suc n) (sym x-there ∙ e ∙ add-one n)))
+
+    pub points-high : n < x → x ≢ n + 1 → Refused 10 0 ≡ stepVerdict n k cs fs
     unfolding stepVerdict
-    points-high l = faulty 10 _ (above-range (lowestDigit k) (suc n) (pointed k fs) (omega (arith, x-there, s-is)) (omega (arith, x-there)))
-
-    module _ (high : x ≤ n + 1) where
-      in-board : outside (lowestDigit k) (suc n) (pointed k fs) ≡ false
-      in-board = in-range (lowestDigit k) (suc n) (pointed k fs) (omega (arith, x-there, s-is)) (omega (arith, x-there))
-
-      pub points-behind : x ≡ n + 1 → Fine ≡ stepVerdict n k cs fs
-      unfolding stepVerdict closes
-      points-behind e = faultless 10 in-board (rw (eq-eqb (pointed k fs) (suc n) (sym x-there ∙ e ∙ add-one n)))
-
-      pub points-to : {w : Verdict} → x ≢ n + 1 → w ≡ counterVerdict n k x cs fs → w ≡ stepVerdict n k cs fs
-      unfolding stepVerdict closes
-      points-to ne w-is = faultless 10 in-board
-          (rw (ne-eqb (pointed k fs) (suc n) (λ e. ne (x-there ∙ e ∙ sym (add-one n)))) (w-is ∙ ap (λ z. counterVerdict n k z cs fs) x-there))
+    points-high l ne = faulty 10 _ (above-range (lowestDigit k) (suc n) (pointed k fs) (omega (arith, x-there, s-is)) (omega (arith, x-there)))
 
   -- ---- what a step that is not refused relies on
 
@@ -110,17 +108,14 @@ module _ (n k : ℕ) (cs fs : List ℕ) {s x : ℕ} (s-is : s ≡ lowestDigit k)
         let w = inside (lowestDigit k) (suc n) (pointed k fs) (no-fault 10 _ (both-fine (refusedIf 10 (outside (lowestDigit k) (suc n) (pointed k fs))) _ fine .0)) in
         omega (arith, x-there, s-is)
 
-    pub x-inside : x ≢ n + 1 → (1 ≤ x) × (x ≤ n)
-    x-inside ne = omega (arith, x-range, lowest-range k, s-is)
-
-    pub closes-where : x ≡ n + 1 → closes n k fs ≡ true
+    closes-where : n < x → closes n k fs ≡ true
     unfolding closes
-    closes-where e = eq-eqb (pointed k fs) (suc n) (sym x-there ∙ e ∙ add-one n)
+    closes-where l = eq-eqb (pointed k fs) (suc n) (omega (arith, x-there, x-range))
 
-    module _ (ne : x ≢ n + 1) where
-      pub closes-no : closes n k fs ≡ false
+    module _ (within : x ≤ n) where
+      closes-no : closes n k fs ≡ false
       unfolding closes
-      closes-no = ne-eqb (pointed k fs) (suc n) (λ e. ne (x-there ∙ e ∙ sym (add-one n)))
+      closes-no = ne-eqb (pointed k fs) (suc n) (λ e. omega (arith, x-there))
 
       pub counter-room : place cs x < k * x - 1
       unfolding stepVerdict counterVerdict
@@ -133,18 +128,18 @@ module _ (n k : ℕ) (cs fs : List ℕ) {s x : ℕ} (s-is : s ≡ lowestDigit k)
     -- ---- what the step leaves, by its three ways
 
     -- the round closes
-    pub closing : {ps : List ℕ} → x ≡ n + 1 → ps ≡ put fs s s →
+    pub closing : {ps : List ℕ} → n < x → ps ≡ put fs s s →
         (n ≡ stepFlip n k fs) × ((true ≡ closes n k fs) × ((cs ≡ steppedCounters n k cs fs) × (ps ≡ steppedPointers n k cs fs)))
     unfolding stepFlip steppedCounters steppedPointers
-    closing e ps-is = let t = closes-where e in (rw t, (sym t, (rw t, rw t (ps-is ∙ ap (λ z. put fs z z) s-is))))
+    closing l ps-is = let t = closes-where l in (rw t, (sym t, (rw t, rw t (ps-is ∙ ap (λ z. put fs z z) s-is))))
 
-    module _ {c : ℕ} (ne : x ≢ n + 1) (c-is : c ≡ place cs x) {ps qs : List ℕ} where
+    module _ {c : ℕ} (within : x ≤ n) (c-is : c ≡ place cs x) {ps qs : List ℕ} where
       -- digit x gains one
       pub gaining : c + 1 ≢ k * x - 1 → qs ≡ put cs x (c + 1) → ps ≡ put fs s s →
           (x ≡ stepFlip n k fs) × ((false ≡ closes n k fs) × ((qs ≡ steppedCounters n k cs fs) × (ps ≡ steppedPointers n k cs fs)))
       unfolding stepFlip steppedCounters steppedPointers fills
       gaining more qs-is ps-is =
-          let f = closes-no ne in
+          let f = closes-no within in
           let no : eqb (suc (place cs x)) (k * x - 1) ≡ false = ne-eqb (suc (place cs x)) (k * x - 1) (λ e. more (add-one c ∙ ap suc c-is ∙ e)) in (
             rw f x-there,
             (
@@ -161,7 +156,7 @@ module _ (n k : ℕ) (cs fs : List ℕ) {s x : ℕ} (s-is : s ≡ lowestDigit k)
           (x ≡ stepFlip n k fs) × ((false ≡ closes n k fs) × ((qs ≡ steppedCounters n k cs fs) × (ps ≡ steppedPointers n k cs fs)))
       unfolding stepFlip steppedCounters steppedPointers fills
       filling e qs-is ps-is =
-          let f = closes-no ne in
+          let f = closes-no within in
           let so : eqb (suc (place cs x)) (k * x - 1) ≡ true = eq-eqb (suc (place cs x)) (k * x - 1) (sym (ap suc c-is) ∙ sym (add-one c) ∙ e) in (
             rw f x-there,
             (
@@ -182,17 +177,15 @@ put-three x s fs e-is a-is b-is d-is =
 
 -- ---- what a call that is not refused may rely on
 
+-- two buffers that have their lengths
+pub lent-board : {n k : ℕ} {cs fs : List ℕ} → Fit n k cs 1 fs → LentBoard n k cs fs
+lent-board f = record { sizes = f .sizes; counters = f .one; pointers = f .two ∙ add-one _ }
+
 -- a step
 pub step-asked : (n k : ℕ) (cs fs : List ℕ) → lentStepVerdict n k cs fs ≡ Fine → StepAsked n k cs fs
 unfolding lentStepVerdict
 step-asked n k cs fs e =
-    let rest = both-fine (sizesVerdict n k) _ e in
-    let lengths = both-fine (lengthVerdict n cs) _ (rest .1) in
-    let last = both-fine (lengthVerdict (suc n) fs) _ (lengths .1) in
-    record {
-      lent = record { sizes = permitted n k (rest .0); counters = has-length n cs (lengths .0); pointers = has-length (suc n) fs (last .0) };
-      fine = last .1;
-    }
+    let both = both-fine (buffersVerdict n k cs 1 fs) _ e in record { lent = lent-board (fit n k cs 1 fs (both .0)); fine = both .1 }
 
 -- its flip has at most n slots
 pub step-flip-high : {n k : ℕ} {cs fs : List ℕ} → StepAsked n k cs fs → stepFlip n k fs ≤ n
@@ -203,10 +196,8 @@ step-flip-high {n} {k} {cs} {fs} asked =
     rw (ne-eqb (place fs (lowestDigit k)) (suc n) ne) (omega arith))
 
 -- the writing of a board
-pub board-asked : (n k r : ℕ) (cs fs : List ℕ) → lentRankVerdict n k r n cs (suc n) fs ≡ Fine → BoardAsked n k r cs fs
-board-asked n k r cs fs e =
-    let a = rank-accepted n k r n cs (suc n) fs e in
-    record { lent = record { sizes = a .sizes; counters = a .first-length; pointers = a .second-length }; rank = a .rank }
+pub board-asked : (n k r : ℕ) (cs fs : List ℕ) → lentRankVerdict n k r cs 1 fs ≡ Fine → BoardAsked n k r cs fs
+board-asked n k r cs fs e = let a = rank-accepted n k r cs 1 fs e in record { lent = lent-board (a .0); rank = a .1 }
 
 -- ---- the answer of a step
 
@@ -236,13 +227,11 @@ small-digit n k x cs fs =
     small-first _ _ (small-if 10 _ (omega arith)) (λ fine. by-test (fills k x cs) (λ t. rw t (small-if 10 _ (omega arith))) (λ t. rw t small-fine))
 
 pub small-step : (n k : ℕ) (cs fs : List ℕ) → Small (lentStepVerdict n k cs fs)
-unfolding lentStepVerdict lengthVerdict stepVerdict
+unfolding lentStepVerdict stepVerdict
 small-step n k cs fs =
-    small-first _ _ (small-sizes n k)
-    (λ fine. small-first _ _ (small-if 4 _ (omega arith))
-    (λ fine. small-first _ _ (small-if 4 _ (omega arith))
+    small-first _ _ (small-buffers n k cs 1 fs)
     (λ fine. small-first _ _ (small-if 10 _ (omega arith))
-    (λ fine. by-test (closes n k fs) (λ t. rw t small-fine) (λ t. rw t (small-digit n k (pointed k fs) cs fs))))))
+    (λ fine. by-test (closes n k fs) (λ t. rw t small-fine) (λ t. rw t (small-digit n k (pointed k fs) cs fs))))
 
 -- ---- the digit x that the pointer at s points to, where the round does not close
 
@@ -257,19 +246,20 @@ pub record Pointed (n k s x : ℕ) (cs fs : List ℕ) : Type 0 where
   pub counters : x ≤ length cs
   pub pointers : suc x ≤ length fs
 
-pub pointed-digit : (n k : ℕ) (cs fs : List ℕ) {s x : ℕ} → StepAsked n k cs fs → s ≡ lowestDigit k → x ≡ place fs s → x ≢ n + 1 → Pointed n k s x cs fs
-pointed-digit n k cs fs asked s-is x-is ne =
+pub pointed-digit : (n k : ℕ) (cs fs : List ℕ) {s x : ℕ} → StepAsked n k cs fs → s ≡ lowestDigit k → x ≡ place fs s → x ≤ n → Pointed n k s x cs fs
+pointed-digit n k cs fs {s} {x} asked s-is x-is within =
     let lent = asked .lent in
-    let digit = x-inside n k cs fs s-is x-is (asked .fine) ne in
-    let product = product-range (lent .sizes) (digit .0) (digit .1) in
+    let range = x-range n k cs fs s-is x-is (asked .fine) in
+    let one : 1 ≤ x = omega (arith, lowest-range k, s-is) in
+    let product = product-range (lent .sizes) one within in
     record {
       s-low = omega (arith, lowest-range k);
-      s-high = x-range n k cs fs s-is x-is (asked .fine) .0;
-      x-high = digit .1;
+      s-high = range .0;
+      x-high = within;
       n-high = lent .sizes .n-high;
       product-low = product .0;
       product-high = product .1;
-      room = counter-room n k cs fs s-is x-is (asked .fine) ne;
+      room = counter-room n k cs fs s-is x-is (asked .fine) within;
       counters = omega (arith, lent .counters);
       pointers = omega (arith, lent .pointers);
     }

@@ -1,25 +1,23 @@
--- The laws of the board of a rank, as it is written from the digits. A digit below s is never full, so a digit begins a run
--- where it is full and the one before it is not; and where a digit is not full the run from it on ends at once. Assumes nothing.
+-- The laws of the board as the code makes it. The digits of a rank are taken off one by one; a digit points elsewhere only where
+-- the one before it is not full, and where a digit is not full the run from it on ends at once. Assumes nothing.
 use mathlib.Core.Path.{_≡_, refl, sym, ap, _∙_}
 use mathlib.Core.Bool.{Bool, true, false, cond}
 use mathlib.Core.List.{List}
-use Prim.Native.Nat.{ℕ, zero, suc, _+_, _-_, _*_, _/_, _%_, _≤_, _<_}
-use native.Mathlib.Nat.{mod-one, div-one, mod-lt, zero-mod, div-eq-of-lt, div-div-eq-div-mul, mul-comm, mul-pos, mul-le-mul}
+use Prim.Native.Nat.{ℕ, suc, _+_, _-_, _*_, _/_, _%_, _≤_, _<_}
+use native.Mathlib.Nat.{div-one, mod-lt, div-div-eq-div-mul, mul-comm, mul-pos, mul-le-mul}
 use native.Mathlib.Numerals.{add-one}
 use native.Mathlib.Omega.{arith}
 use lib.Dec.{eqb}
-use lib.ListN.{length, set, length-set, getD-replicate}
-use borrow.Author.Tests.{lt-ltb, le-ltb, eq-eqb, ne-eqb}
-use Rattle.rows.specs.Row.{at, row, front}
-use Rattle.rows.proofs.Cases.{by-lt, by-eq, by-test}
-use Rattle.rows.proofs.Rows.{read, unread, row-ext, begun, stored, rewritten}
+use lib.ListN.{length, set}
+use Rattle.rows.specs.Row.{at, front}
+use Rattle.rows.proofs.Cases.{by-test}
+use Rattle.rows.proofs.Rows.{read, begun, stored, written-over}
 use Rattle.sizes.specs.Sizes.{weight, Permitted, mostSlots, mostSettings}
 use Rattle.sizes.proofs.Weights.{weight-zero, weight-suc}
-use Rattle.arrangement.specs.Copy.{wide, blank}
+use Rattle.arrangement.specs.Copy.{blank}
 use Rattle.order.specs.Digits.{digit}
-use Rattle.board.specs.Board.{lowestDigit, full, counter, begins, runEnd, pointer, IsBoard}
-use Rattle.board.proofs.Runs.{lowest-one, lowest-more, lowest-range, full-below, run-stops}
-use Rattle.board.specs.Asked.{HasDigits, EndsAt, PointsTo, HasPointers, fullDigit, storedDigit}
+use Rattle.board.specs.Board.{place, lowestDigit, full, counter, runEnd, pointer, counters, pointers, IsBoard}
+use Rattle.board.proofs.Runs.{back, lowest-range, full-below, full-here, full-ext, counter-below, counter-full, counter-open, counter-ext, run-stops, run-goes, pointer-inside, pointer-behind, counters-ext, pointers-ext}
 
 -- ---- digits taken off
 
@@ -52,173 +50,134 @@ taken-fits {k} {j} above k-low k-high j-low j-high =
 pub next-fits : {n k : ℕ} → Permitted n k → (i above : ℕ) → i < n → TakenFits (k * (i + 1)) above
 next-fits sizes i above l = taken-fits above (sizes .k-low) (sizes .k-high) (omega arith) (omega (arith, sizes .n-high))
 
--- the digits that are taken off, and the 0 behind them
-pub has-digits : {n k r : ℕ} {ds : List ℕ} → Permitted n k → r < weight n k → ds ≡ front (λ i. digit k r (suc i)) n blank → HasDigits n k r ds
-unfolding digit
-has-digits {n} {k} {r} {ds} sizes r-lt ds-is = record {
-  each = λ i l. by-lt i n (λ h. read _ n blank i ds-is h)
-      (λ h. let e : i ≡ n = omega arith in
-      unread _ n blank i ds-is h ∙ getD-replicate {A = ℕ} wide i 0 0 (omega (arith, sizes)) ∙
-      sym (rw (e, div-eq-of-lt r-lt) (zero-mod _)));
-}
+-- ---- one digit, by the tests of the code
 
--- ---- one digit
+module _ (k j : ℕ) (x : ℕ) {s : ℕ} (s-is : s ≡ lowestDigit k) where
+  pub not-full-below : j < s → false ≡ full k (λ _. x) j
+  not-full-below l = sym (full-below k (λ _. x) j (omega (arith, s-is)))
 
--- a digit below s is digit 1 with k = 1, which is 0
-below-lowest : (k r j : ℕ) → 1 ≤ j → j < lowestDigit k → digit k r j ≡ 0
-unfolding digit
-below-lowest k r zero a l = absurd (omega arith)
-below-lowest k r (suc m) a l =
-    by-eq k 1
-    (λ e. let m-is : m ≡ 0 = omega (arith, ap lowestDigit e ∙ lowest-one) in rw (e, m-is) (mod-one _))
-    (λ ne. absurd (omega (arith, lowest-more k ne)))
+  pub full-from : s ≤ j → eqb x (k * j - 1) ≡ full k (λ _. x) j
+  full-from l = sym (full-here k (λ _. x) j (omega (arith, s-is)))
 
--- full, from the digit
-pub full-is : (k r j : ℕ) → fullDigit k j (digit k r j) ≡ full k r j
-unfolding full fullDigit
-full-is k r j = refl
+  pub none-counted : j < s → 0 ≡ counter k (λ _. x) j
+  none-counted l = sym (counter-below k (λ _. x) j (omega (arith, s-is)))
 
-pub stored-is : (k r j : ℕ) → 1 ≤ j → storedDigit k j (digit k r j) ≡ counter k r j
-unfolding storedDigit counter
-stored-is k r j a =
-    rw full-is
-    (by-lt j (lowestDigit k)
-    (λ l. rw (lt-ltb j (lowestDigit k) l, full-below k r j l) (below-lowest k r j a l))
-    (λ l. rw (le-ltb j (lowestDigit k) l)))
+  pub full-counted : {b : Bool} → b ≡ full k (λ _. x) j → b ≡ true → 0 ≡ counter k (λ _. x) j
+  full-counted told t = sym (counter-full k (λ _. x) j (sym told ∙ t))
 
--- by the tests of the code, where s is the lowest digit that is counted
-module _ (k j d : ℕ) {s : ℕ} (s-is : s ≡ lowestDigit k) where
-  pub not-full-below : j < s → fullDigit k j d ≡ false
-  unfolding fullDigit
-  not-full-below l = rw (← s-is, lt-ltb j s l)
+  pub open-counted : {b : Bool} → s ≤ j → b ≡ full k (λ _. x) j → b ≡ false → x ≡ counter k (λ _. x) j
+  open-counted l told f = sym (counter-open k (λ _. x) j (omega (arith, s-is)) (sym told ∙ f))
 
-  pub full-from : s ≤ j → fullDigit k j d ≡ eqb d (k * j - 1)
-  unfolding fullDigit
-  full-from l = rw (← s-is, le-ltb j s l)
+-- digit i + 1 of a row
+module _ (k : ℕ) (ds : List ℕ) (i : ℕ) where
+  full-at : full k (λ _. at ds i) (i + 1) ≡ full k (place ds) (suc i)
+  full-at = rw add-one (full-ext k (λ _. at ds i) (place ds) (suc i) (ap (at ds) (omega arith)))
 
-pub stored-full : (k j d : ℕ) → fullDigit k j d ≡ true → storedDigit k j d ≡ 0
-unfolding storedDigit
-stored-full k j d t = rw t
+  counter-at : counter k (λ _. at ds i) (i + 1) ≡ counter k (place ds) (suc i)
+  counter-at = rw add-one (counter-ext k (λ _. at ds i) (place ds) (suc i) (ap (at ds) (omega arith)))
 
-pub stored-open : (k j d : ℕ) → fullDigit k j d ≡ false → storedDigit k j d ≡ d
-unfolding storedDigit
-stored-open k j d f = rw f
+-- ---- the counters
 
--- ---- runs
+-- the first i counters are made
+pub record Counting (n k : ℕ) (ds made : List ℕ) (i : ℕ) : Type 0 where
+  pub high : i ≤ n
+  pub made-is : made ≡ front (λ i. counter k (place ds) (suc i)) i blank
 
--- one that is full does not
-pub run-goes-on : (n k r j : ℕ) → j ≤ n → full k r j ≡ true → runEnd (suc n - j) k r j ≡ runEnd (suc n - suc j) k r (suc j)
-unfolding runEnd
-run-goes-on n k r j l t =
-    let e : suc n - j ≡ suc (n - j) = omega arith in
-    let e' : suc n - suc j ≡ n - j = omega arith in
-    rw (e, e', runEnd, t)
+pub counting-first : {n k : ℕ} {ds : List ℕ} → Counting n k ds blank 0
+counting-first = record { high = omega arith; made-is = begun _ blank }
 
--- a digit points elsewhere only where the one before it is not full
-pub pointer-is : (n k r i : ℕ) → cond (full k r i) (suc i) (runEnd (suc n - suc i) k r (suc i)) ≡ pointer n k r (suc i)
-unfolding pointer begins
-pointer-is n k r i =
-    let e : suc i - 1 ≡ i = omega arith in
-    by-test (full k r (suc i))
-    (λ t. by-eq (suc i) (lowestDigit k)
-    (λ s. let f : full k r i ≡ false = full-below k r i (omega arith) in rw (t, f, eq-eqb (suc i) (lowestDigit k) s))
-    (λ ne. by-test (full k r i) (λ u. rw (t, ne-eqb (suc i) (lowestDigit k) ne, e, u)) (λ u. rw (t, ne-eqb (suc i) (lowestDigit k) ne, e, u))))
-    (λ f. rw (f, run-stops (suc n - suc i) k r (suc i) f) (same (full k r i)))
-  where
-    same : (b : Bool) → cond b (suc i) (suc i) ≡ suc i
-    same true = refl
-    same false = refl
+pub counting-on : {n k : ℕ} {ds made : List ℕ} {i c : ℕ} → Permitted n k → Counting n k ds made i → i < n → c ≡ counter k (λ _. at ds i) (i + 1) →
+    Counting n k ds (set made i c) (i + 1)
+counting-on {k} {ds} {i} sizes done l c-is =
+    record { high = omega arith; made-is = stored _ i blank (done .made-is) (omega (arith, sizes .n-high)) (c-is ∙ counter-at k ds i) }
 
--- ---- a loop that looks for the end of a run
+-- ---- the end of a run
 
--- what a row by value says of digit j
-pub full-at : {n k r : ℕ} {ds : List ℕ} → HasDigits n k r ds → (j : ℕ) → 1 ≤ j → j ≤ suc n → fullDigit k j (at ds (j - 1)) ≡ full k r j
-full-at d zero a l = absurd (omega arith)
-full-at {k} {r} {ds} d (suc i) a l =
-    let e : suc i - 1 ≡ i = omega arith in
-    ap (λ x. fullDigit k (suc i) (at ds x)) e ∙ ap (fullDigit k (suc i)) (d .each i (omega arith)) ∙ full-is k r (suc i)
-
--- the digits from j on, up to e, are full
-pub record Running (n k j : ℕ) (ds : List ℕ) (e : ℕ) : Type 0 where
+-- it has come from j to e
+pub record Running (n k : ℕ) (ds : List ℕ) (j e : ℕ) : Type 0 where
   pub low : 1 ≤ e
   pub high : e ≤ suc n
-  pub same : (r : ℕ) → HasDigits n k r ds → runEnd (suc n - j) k r j ≡ runEnd (suc n - e) k r e
+  pub same : runEnd (suc n - j) k (place ds) j ≡ runEnd (suc n - e) k (place ds) e
 
-pub running-first : {n k j : ℕ} {ds : List ℕ} → 1 ≤ j → j ≤ suc n → Running n k j ds j
-running-first low high = record { low = low; high = high; same = λ r d. refl }
+pub running-first : {n k : ℕ} {ds : List ℕ} {j : ℕ} → 1 ≤ j → j ≤ suc n → Running n k ds j j
+running-first low high = record { low = low; high = high; same = refl }
 
-module _ {n k j e : ℕ} {ds : List ℕ} (run : Running n k j ds e) where
-  -- digit e is not full
-  pub run-stopped : {b : Bool} → b ≡ fullDigit k e (at ds (e - 1)) → b ≡ false → EndsAt n k j ds e
-  run-stopped told f = record {
-    high = run .high;
-    end = λ r d. sym (run .same r d ∙ run-stops (suc n - e) k r e (sym (full-at d e (run .low) (run .high)) ∙ sym told ∙ f));
-  }
+-- it goes on where digit j is full
+pub run-goes-on : (n k : ℕ) (d : ℕ → ℕ) (j : ℕ) → j ≤ n → full k d j ≡ true → runEnd (suc n - j) k d j ≡ runEnd (suc n - suc j) k d (suc j)
+run-goes-on n k d j l t =
+    let e : suc n - j ≡ suc (n - j) = omega arith in
+    let f : suc n - suc j ≡ n - j = omega arith in
+    ap (λ m. runEnd m k d j) e ∙ run-goes (n - j) k d j t ∙ sym (ap (λ m. runEnd m k d (suc j)) f)
 
-  -- it is full
-  pub running-on : {b : Bool} → e ≤ n → b ≡ fullDigit k e (at ds (e - 1)) → b ≡ true → Running n k j ds (e + 1)
-  running-on l told t = record {
+module _ {n k j e : ℕ} {ds : List ℕ} (run : Running n k ds j e) {b : Bool} (told : b ≡ full k (λ _. at ds (e - 1)) e) where
+  full-there : full k (place ds) e ≡ b
+  full-there = full-ext k (place ds) (λ _. at ds (e - 1)) e refl ∙ sym told
+
+  pub run-stopped : b ≡ false → (e ≡ runEnd (suc n - j) k (place ds) j) × (e ≤ suc n)
+  run-stopped f = (sym (run .same ∙ run-stops (suc n - e) k (place ds) e (full-there ∙ f)), run .high)
+
+  pub running-on : e ≤ n → b ≡ true → Running n k ds j (e + 1)
+  running-on l t = record {
     low = omega arith;
     high = omega arith;
-    same = λ r d. rw add-one (run .same r d ∙ run-goes-on n k r e l (sym (full-at d e (run .low) (run .high)) ∙ sym told ∙ t));
+    same = rw add-one (run .same ∙ run-goes-on n k (place ds) e l (full-there ∙ t));
   }
 
-  -- there is no digit left
-  pub run-reached : n < e → EndsAt n k j ds e
-  unfolding runEnd
-  run-reached l =
-      let none : suc n - e ≡ 0 = omega (arith, run .high) in
-      record { high = run .high; end = λ r d. sym (run .same r d ∙ ap (λ m. runEnd m k r e) none) }
+-- there is no digit left
+pub run-reached : {n k : ℕ} {ds : List ℕ} {j e : ℕ} → Running n k ds j e → n < e → (e ≡ runEnd (suc n - j) k (place ds) j) × (e ≤ suc n)
+unfolding runEnd
+run-reached {n} {k} {ds} {j} {e} run l =
+    let none : suc n - e ≡ 0 = omega (arith, run .high) in (sym (run .same ∙ ap (λ m. runEnd m k (place ds) e) none), run .high)
 
--- ---- a pointer, and a loop that writes them
+-- ---- the pointers
 
--- within a run, and elsewhere
-pub points-within : {n k j : ℕ} {within : Bool} {ds : List ℕ} → within ≡ true → PointsTo n k j within ds j
-points-within t = record { to = λ r d. rw t }
+pub pointer-is : (n k : ℕ) (d : ℕ → ℕ) (i : ℕ) → cond (full k d i) (suc i) (runEnd (suc n - suc i) k d (suc i)) ≡ pointer n k d (suc i)
+pointer-is n k d i =
+    let e : suc i - 1 ≡ i = omega arith in
+    by-test (full k d i)
+    (λ t. rw t (sym (pointer-inside n k d (suc i) (λ s. true-or-false (sym t ∙ full-below k d i (omega arith))) (rw e t))))
+    (λ f. rw f (sym (pointer-behind n k d (suc i) (omega arith) (rw e f))))
+  where
+    true-or-false : _≡_ {A = Bool} true false → ⊥
+    true-or-false e = let z : _≡_ {A = ℕ} 0 1 = cc in omega arith
 
-pub points-to-end : {n k j e : ℕ} {within : Bool} {ds : List ℕ} → within ≡ false → EndsAt n k j ds e → PointsTo n k j within ds e
-points-to-end f ends = record { to = λ r d. rw f (ends .end r d) }
-
--- the first i pointers are written, and it is known whether digit i is full
-pub record Pointing (n k : ℕ) (ds before fs : List ℕ) (within : Bool) (i : ℕ) : Type 0 where
+-- the first i pointers are made, and it is known whether digit i is full
+pub record Pointing (n k : ℕ) (ds made : List ℕ) (within : Bool) (i : ℕ) : Type 0 where
   pub high : i ≤ suc n
-  pub as-long : length fs ≡ suc n
-  pub known : (r : ℕ) → HasDigits n k r ds → within ≡ full k r i
-  pub written : (r : ℕ) → HasDigits n k r ds → fs ≡ front (λ i. pointer n k r (suc i)) i before
+  pub known : within ≡ full k (place ds) i
+  pub made-is : made ≡ front (λ i. pointer n k (place ds) (suc i)) i blank
 
-module _ {n k : ℕ} {ds before : List ℕ} (whole : length before ≡ suc n) where
-  pub pointing-first : Pointing n k ds before before false 0
-  pointing-first = record {
-    high = omega arith;
-    as-long = whole;
-    known = λ r d. sym (full-below k r 0 (lowest-range k .0));
-    written = λ r d. begun _ before;
-  }
+pub pointing-first : {n k : ℕ} {ds : List ℕ} → Pointing n k ds blank false 0
+pointing-first {k} {ds} = record { high = omega arith; known = sym (full-below k (place ds) 0 (lowest-range k .0)); made-is = begun _ blank }
 
-  module _ {fs : List ℕ} {within : Bool} {i : ℕ} (done : Pointing n k ds before fs within i) where
-    pub pointing-on : {f : ℕ} {b : Bool} → i ≤ n → PointsTo n k (i + 1) within ds f → b ≡ fullDigit k (i + 1) (at ds i) →
-        Pointing n k ds before (set fs i f) b (i + 1)
-    pointing-on {f} {b} l points told = record {
-      high = omega arith;
-      as-long = length-set fs i f ∙ done .as-long;
-      known = λ r d. told ∙ rw add-one (ap (fullDigit k (suc i)) (d .each i l) ∙ full-is k r (suc i));
-      written = λ r d.
-          let to : f ≡ cond within (suc i) (runEnd (suc n - suc i) k r (suc i)) = rw add-one at (points .to r d) in
-          stored _ i before (done .written r d) (omega arith)
-          (to ∙ ap (λ w. cond w (suc i) (runEnd (suc n - suc i) k r (suc i))) (done .known r d) ∙ pointer-is n k r i);
-    }
-
-    pub pointing-done : n < i → HasPointers n k ds fs
-    pointing-done l =
-        let e : i ≡ suc n = omega (arith, done .high) in
-        record { all = λ r d. rewritten _ (suc n) i before (done .written r d) e whole }
+pub pointing-on : {n k : ℕ} {ds : List ℕ} {made : List ℕ} {within : Bool} {i f : ℕ} {b : Bool} → Permitted n k → Pointing n k ds made within i → i ≤ n →
+    f ≡ cond within (i + 1) (runEnd (suc n - (i + 1)) k (place ds) (i + 1)) → b ≡ full k (λ _. at ds i) (i + 1) → Pointing n k ds (set made i f) b (i + 1)
+pointing-on {n} {k} {ds} {made} {within} {i} {f} sizes done l f-is told = record {
+  high = omega arith;
+  known = told ∙ full-at k ds i ∙ rw add-one;
+  made-is =
+      let to : f ≡ cond within (suc i) (runEnd (suc n - suc i) k (place ds) (suc i)) = rw add-one at f-is in
+      stored _ i blank (done .made-is) (omega (arith, sizes .n-high))
+      (to ∙ ap (λ w. cond w (suc i) (runEnd (suc n - suc i) k (place ds) (suc i))) (done .known) ∙ pointer-is n k (place ds) i);
+}
 
 -- ---- the board
 
--- counters and pointers from the digits of r
-pub is-board : {n k r : ℕ} {ds cs fs : List ℕ} → HasDigits n k r ds → cs ≡ row (λ i. storedDigit k (suc i) (at ds i)) n → HasPointers n k ds fs →
-    IsBoard n k r cs fs
-is-board {n} {k} {r} {ds} d cs-is fs-are = record {
-  counters = cs-is ∙ row-ext _ _ n (λ i l. ap (storedDigit k (suc i)) (d .each i (omega arith)) ∙ stored-is k r (suc i) (omega arith));
-  pointers = fs-are .all r d;
-}
+-- rows by value that were made of the digits, stored into two buffers
+module _ (n k : ℕ) (d : ℕ → ℕ) (xs : List ℕ) {copy ys : List ℕ} where
+  pub counters-stored : copy ≡ front (λ i. counter k d (suc i)) n blank → ys ≡ front (at copy) n xs → length xs ≡ n → ys ≡ counters n k d
+  unfolding counters
+  counters-stored copy-is ys-is same = written-over _ n blank xs copy-is ys-is same
+
+  pub pointers-stored : copy ≡ front (λ i. pointer n k d (suc i)) (suc n) blank → ys ≡ front (at copy) (n + 1) xs → length xs ≡ suc n → ys ≡ pointers n k d
+  unfolding pointers
+  pointers-stored copy-is ys-is same = written-over _ (suc n) blank xs copy-is (rw add-one at ys-is) same
+
+-- what a row by value has at place j
+pub digit-at : (f : ℕ → ℕ) {n : ℕ} {ds : List ℕ} → ds ≡ front (λ i. f (suc i)) n blank → (j : ℕ) → 1 ≤ j → j ≤ n → place ds j ≡ f j
+digit-at f {n} ds-is j a b = read _ n blank (j - 1) ds-is (omega arith) ∙ ap f (back j a)
+
+-- the board of digits that are those of a rank is its board
+pub is-board : {n k r : ℕ} {d : ℕ → ℕ} {cs fs : List ℕ} → ((j : ℕ) → 1 ≤ j → j ≤ n → d j ≡ digit k r j) → cs ≡ counters n k d → fs ≡ pointers n k d → IsBoard n k r cs fs
+is-board {n} {k} {r} {d} same cs-are fs-are =
+    record { counters-are = cs-are ∙ counters-ext n k d (digit k r) same; pointers-are = fs-are ∙ pointers-ext n k d (digit k r) same }

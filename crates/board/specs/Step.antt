@@ -1,26 +1,21 @@
 -- 01, "The counter board": one step of a board, true or false. It reads x = f_s; x is n + 1 where the round closes.
-use Prim.Native.Nat.{ℕ, suc, _+_, _-_, _*_}
+use Prim.Native.Nat.{ℕ, suc, _-_, _*_}
 use mathlib.Core.Bool.{Bool, cond}
 use mathlib.Core.List.{List}
-use lib.Dec.{ltb, leb, eqb}
+use lib.Dec.{leb, eqb}
 use lib.ListN.{set}
-use Rattle.rows.specs.Row.{at}
 use Rattle.rows.specs.Search.{outside}
 use Rattle.sizes.specs.declared.Verdict.{Verdict}
 use Rattle.sizes.specs.declared.Verdict.the-variants.{Fine}
 use Rattle.sizes.specs.Refusal.{first, refusedIf}
-use Rattle.sizes.specs.Sizes.{sizesVerdict}
-use Rattle.arrangement.specs.Check.{lengthVerdict}
-use Rattle.board.specs.Board.{lowestDigit}
+use Rattle.arrangement.specs.Check.{buffersVerdict}
+use Rattle.board.specs.Board.{place, lowestDigit}
 
--- c_j and f_j of a lent board, and the buffers with another number there
-abbrev pub place : List ℕ → ℕ → ℕ
-place xs j = at xs (j - 1)
-
+-- a buffer with another number at place j
 abbrev pub put : List ℕ → ℕ → ℕ → List ℕ
 put xs j x = set xs (j - 1) x
 
--- x
+-- x, to which f_s points
 unfoldable pub pointed : ℕ → List ℕ → ℕ
 pointed k fs = place fs (lowestDigit k)
 
@@ -36,12 +31,13 @@ stepFlip n k fs = cond (closes n k fs) n (pointed k fs)
 unfoldable pub fills : ℕ → ℕ → List ℕ → Bool
 fills k x cs = eqb (suc (place cs x)) (k * x - 1)
 
--- 10: x is below s or above n + 1; c_x is k × x - 1 or more; the digit becomes full and f_(x + 1) is outside x + 1 to n + 1
+-- 10 of a digit x: c_x is k × x - 1 or more, or the digit becomes full and y = f_(x + 1) is outside x + 1 to n + 1
 unfoldable pub counterVerdict : ℕ → ℕ → ℕ → List ℕ → List ℕ → Verdict
 counterVerdict n k x cs fs =
     first (refusedIf 10 (leb (k * x - 1) (place cs x)))
     (cond (fills k x cs) (refusedIf 10 (outside (suc x) (suc n) (place fs (suc x)))) Fine)
 
+-- 10 of a step: x is below s or above n + 1, or the round does not close and digit x is refused
 unfoldable pub stepVerdict : ℕ → ℕ → List ℕ → List ℕ → Verdict
 stepVerdict n k cs fs =
     first (refusedIf 10 (outside (lowestDigit k) (suc n) (pointed k fs)))
@@ -64,5 +60,4 @@ steppedPointers n k cs fs =
 
 -- the check of n and k, of two lent buffers of n and n + 1 bytes, and of the step: 1 to 4, and 10
 unfoldable pub lentStepVerdict : ℕ → ℕ → List ℕ → List ℕ → Verdict
-lentStepVerdict n k cs fs =
-    first (sizesVerdict n k) (first (lengthVerdict n cs) (first (lengthVerdict (suc n) fs) (stepVerdict n k cs fs)))
+lentStepVerdict n k cs fs = first (buffersVerdict n k cs 1 fs) (stepVerdict n k cs fs)

@@ -4,8 +4,8 @@ use sizes::Verdict;
 ghost use mathlib.Core.Path.{_≡_};
 ghost use Prim.Native.Nat.{suc, _≤_, _<_};
 ghost use lib.ListN.{length};
-ghost use Rattle.board.specs.Board.{lowestDigit};
-ghost use Rattle.board.specs.Step.{place as placeOf, put as putIn, closes, stepFlip, counterVerdict, stepVerdict, lentStepVerdict, steppedCounters, steppedPointers};
+ghost use Rattle.board.specs.Board.{place as placeOf, lowestDigit};
+ghost use Rattle.board.specs.Step.{put as putIn, closes, stepFlip, counterVerdict, stepVerdict, lentStepVerdict, steppedCounters, steppedPointers};
 ghost use Rattle.board.specs.Asked.{LentBoard, DigitAsked, FillAsked, StepAsked};
 
 // The number at a place of a row, counted from 1.
@@ -64,28 +64,22 @@ fn judge_step(n: usize, k: usize, counters: &[u8], pointers: &[u8]) -> Verdict
     if x < s {
         return Verdict::Refused(10, 0);
     }
-    if n + 1 < x {
+    if x <= n {
+        return judge_digit(n, k, x, counters, pointers);
+    }
+    if x != n + 1 {
         return Verdict::Refused(10, 0);
     }
-    if x == n + 1 {
-        return Verdict::Fine;
-    }
-    judge_digit(n, k, x, counters, pointers)
+    Verdict::Fine
 }
 
 // The check of any n and k and of a step of any two lent buffers.
 pub fn judge(n: usize, k: usize, counters: &[u8], pointers: &[u8]) -> Verdict
     ensures { λ r. ⌜ r ≡ lentStepVerdict n k (now (counters .entry)) (now (pointers .entry)) ⌝ }
 {
-    let size = sizes::judge(n, k);
-    if size.refuses() {
-        return size;
-    }
-    if counters.len() != n {
-        return Verdict::Refused(4, 0);
-    }
-    if pointers.len() != n + 1 {
-        return Verdict::Refused(4, 0);
+    let lent = arrangement::check::judge_buffers(n, k, counters, 1, pointers);
+    if lent.refuses() {
+        return lent;
     }
     judge_step(n, k, counters, pointers)
 }
@@ -119,7 +113,7 @@ pub fn step(n: usize, k: usize, counters: &mut [u8], pointers: &mut [u8]) -> Ste
 {
     let s = lowest_digit(k);
     let x = place(pointers, s);
-    if x == n + 1 {
+    if n < x {
         put(pointers, s, s);
         return Stepped {
             flip: n,

@@ -1,5 +1,6 @@
--- The laws of answers. A promise is made of equations, so two outcomes that keep it are equal; the number and the place of a
--- verdict are below 256, so the three parts of the one number stand in bits of their own. Assumes nothing.
+-- The laws of answers. A promise is made of equations, or shows the one reading that there is, so two outcomes that keep it are
+-- equal; the number and the place of a verdict are below 256, so the three parts of the one number stand in bits of their own.
+-- Assumes nothing.
 use Prim.Native.Nat.{ℕ, _+_, _*_, _^_, _/_, _%_, _≤_, _<_}
 use mathlib.Core.Path.{_≡_, refl, sym, _∙_, ap, ap₂}
 use mathlib.Core.Bool.{Bool, true, false, cond}
@@ -12,7 +13,9 @@ use Rattle.sizes.specs.declared.Verdict.the-variants.{Fine, Refused}
 use Rattle.sizes.specs.Refusal.{refuses, numberOf, placeOf, unlessRefused}
 use Rattle.sizes.proofs.Refusals.{was-fine, Small}
 use Rattle.board.specs.Step.{stepFlip, closes}
-use Rattle.limpet.specs.Calls.{stepValue}
+use Rattle.board.specs.declared.read.Reading.{Reading}
+use Rattle.board.proofs.Readings.{one-reading}
+use Rattle.limpet.specs.Calls.{stepValue, ReadReturns}
 use Rattle.limpet.specs.Answer.{Answer, answerOf, packed, unpacked, left, Outcome, outcome, Returns, Leaves}
 
 -- ---- one outcome
@@ -26,6 +29,10 @@ one-outcome p q = (
   p .one-is ∙ sym (q .one-is),
   p .two-is ∙ sym (q .two-is),
 )
+
+pub one-read : {shown : Reading → ℕ} {n k : ℕ} {cs fs : List ℕ} {r s : ℕ} → ReadReturns shown n k cs fs r → ReadReturns shown n k cs fs s → r ≡ s
+one-read {shown} {n} {k} {cs} {fs} p q =
+    p .returned-is ∙ ap shown (one-reading n k cs fs (p .reading) (q .reading) (p .reads) (q .reads)) ∙ sym (q .returned-is)
 
 -- ---- the packing
 

@@ -1,5 +1,6 @@
 -- What each call from C returns and leaves, as total functions of what came in. Where a call has no value, its value is 0.
-use Prim.Native.Nat.{ℕ, suc, _+_}
+use Prim.Native.Nat.{ℕ, _+_}
+use mathlib.Core.Path.{_≡_}
 use mathlib.Core.Bool.{cond}
 use mathlib.Core.List.{List}
 use Rattle.rows.specs.Row.{at, row}
@@ -10,8 +11,11 @@ use Rattle.arrangement.specs.Flip.{flippedModules, flippedSettings, flipVerdict
 use Rattle.order.specs.Check.{lentRankVerdict}
 use Rattle.order.specs.Rank.{rank, unrankModules, unrankSettings}
 use Rattle.look.specs.Look.{look}
-use Rattle.board.specs.Board.{counter, pointer}
+use Rattle.order.specs.Digits.{digit}
+use Rattle.board.specs.Board.{counters, pointers}
 use Rattle.board.specs.Step.{closes, stepFlip, lentStepVerdict, steppedCounters, steppedPointers}
+use Rattle.board.specs.Read.{Reads, verdictOf}
+use Rattle.board.specs.declared.read.Reading.{Reading}
 use Rattle.limpet.specs.Answer.{answerOf, packed, Outcome, outcome}
 
 -- limpet_round: the check of n and k
@@ -38,7 +42,7 @@ rankValueReturns n k ms ss = unlessRefused (lentVerdict n k ms ss) (rank n k (at
 -- limpet_unrank: the arrangement of a rank
 unfoldable pub unrankLeaves : ℕ → ℕ → ℕ → List ℕ → List ℕ → Outcome
 unrankLeaves n k r ms ss =
-    outcome (lentRankVerdict n k r n ms n ss) 0 ms ss (row (unrankModules n k r) n) (row (unrankSettings n k r) n)
+    outcome (lentRankVerdict n k r ms 0 ss) 0 ms ss (row (unrankModules n k r) n) (row (unrankSettings n k r) n)
 
 -- limpet_look: the length of the flip found by looking
 unfoldable pub lookReturns : ℕ → ℕ → List ℕ → List ℕ → ℕ
@@ -53,7 +57,7 @@ nextLeaves n k ms ss =
 -- limpet_board_write: the board of a rank
 unfoldable pub boardLeaves : ℕ → ℕ → ℕ → List ℕ → List ℕ → Outcome
 boardLeaves n k r cs fs =
-    outcome (lentRankVerdict n k r n cs (suc n) fs) 0 cs fs (row (λ i. counter k r (suc i)) n) (row (λ i. pointer n k r (suc i)) (suc n))
+    outcome (lentRankVerdict n k r cs 1 fs) 0 cs fs (counters n k (digit k r)) (pointers n k (digit k r))
 
 -- limpet_board_step: one step, with the flip in the lowest 8 bits of the value and, in the next, whether the round closed
 unfoldable pub stepValue : ℕ → ℕ → List ℕ → ℕ
@@ -62,3 +66,14 @@ stepValue n k fs = stepFlip n k fs + cond (closes n k fs) 256 0
 unfoldable pub stepLeaves : ℕ → ℕ → List ℕ → List ℕ → Outcome
 stepLeaves n k cs fs =
     outcome (lentStepVerdict n k cs fs) (stepValue n k fs) cs fs (steppedCounters n k cs fs) (steppedPointers n k cs fs)
+
+-- limpet_board_read and limpet_board_read_rank: what is shown of the reading of a board. 01 says of a reading what it must be, not
+-- how it is found, so the promise is that there is one; that there is only one is `one-reading`
+pub record ReadReturns (shown : Reading → ℕ) (n k : ℕ) (cs fs : List ℕ) (r : ℕ) : Type 0 where
+  pub reading : Reading
+  pub reads : Reads n k cs fs reading
+  pub returned-is : r ≡ shown reading
+
+-- limpet_board_read shows whether it was refused, and limpet_board_read_rank its rank, `rankRead`
+unfoldable pub verdictShown : Reading → ℕ
+verdictShown reading = packed (answerOf (verdictOf reading) 0)

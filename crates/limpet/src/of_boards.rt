@@ -1,4 +1,4 @@
-// What C asks of counter boards: the board of a rank, and one step.
+// What C asks of counter boards: the board of a rank, one step, and the rank of a board.
 use crate::answer::pack;
 use board::step::Stepped;
 ghost use mathlib.Core.Path.{_≡_};
@@ -6,7 +6,8 @@ ghost use mathlib.Core.Bool.{cond};
 ghost use Prim.Native.Nat.{_+_, _≤_};
 ghost use Rattle.sizes.specs.Sizes.{mostSlots};
 ghost use Rattle.limpet.specs.Answer.{Leaves};
-ghost use Rattle.limpet.specs.Calls.{boardLeaves, stepLeaves};
+ghost use Rattle.board.specs.Read.{rankRead};
+ghost use Rattle.limpet.specs.Calls.{boardLeaves, stepLeaves, ReadReturns, verdictShown};
 
 #[no_mangle]
 pub extern "C" fn limpet_board_write(
@@ -18,7 +19,7 @@ pub extern "C" fn limpet_board_write(
 ) -> u64
     ensures { λ r. ⌜ Leaves (boardLeaves n k rank (now (counters .entry)) (now (pointers .entry))) r (now (counters .exit)) (now (pointers .exit)) ⌝ }
 {
-    let verdict = board::write::judge(n, k, rank, counters, pointers);
+    let verdict = order::check::judge(n, k, rank, counters, 1, pointers);
     if verdict.refuses() {
         return pack(verdict, 0);
     }
@@ -50,4 +51,23 @@ pub extern "C" fn limpet_board_step(
     }
     let stepped = board::step::step(n, k, counters, pointers);
     pack(verdict, step_value(stepped))
+}
+
+#[no_mangle]
+pub extern "C" fn limpet_board_read(n: usize, k: usize, counters: &[u8], pointers: &[u8]) -> u64
+    ensures { λ r. ⌜ ReadReturns verdictShown n k (now (counters .entry)) (now (pointers .entry)) r ⌝ }
+{
+    pack(board::read::read(n, k, counters, pointers).verdict(), 0)
+}
+
+#[no_mangle]
+pub extern "C" fn limpet_board_read_rank(
+    n: usize,
+    k: usize,
+    counters: &[u8],
+    pointers: &[u8],
+) -> u64
+    ensures { λ r. ⌜ ReadReturns rankRead n k (now (counters .entry)) (now (pointers .entry)) r ⌝ }
+{
+    board::read::read(n, k, counters, pointers).rank()
 }

@@ -31,7 +31,7 @@ pub extern "C" fn limpet_unrank(
 ) -> u64
     ensures { λ r. ⌜ Leaves (unrankLeaves n k rank (now (modules .entry)) (now (settings .entry))) r (now (modules .exit)) (now (settings .exit)) ⌝ }
 {
-    let verdict = order::check::judge(n, k, rank, n, modules, n, settings);
+    let verdict = order::check::judge(n, k, rank, modules, 0, settings);
     if verdict.refuses() {
         return pack(verdict, 0);
     }

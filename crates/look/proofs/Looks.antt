@@ -8,10 +8,10 @@ use Prim.Native.Nat.{ℕ, zero, suc, _+_, _-_, _*_, _≤_, _<_}
 use native.Mathlib.Nat.{le-refl}
 use native.Mathlib.Numerals.{add-one}
 use native.Mathlib.Omega.{arith}
-use borrow.Author.Tests.{eqb-true, eq-eqb, ne-eqb, le-leb, lt-leb, leb-false, leb-true}
+use borrow.Author.Tests.{eq-eqb, ne-eqb, le-leb, lt-leb}
 use Rattle.rows.specs.Row.{at}
 use Rattle.rows.specs.Search.{ifLt, orElse, lowest}
-use Rattle.rows.proofs.Cases.{by-eq, by-lt, by-last}
+use Rattle.rows.proofs.Cases.{by-eq, by-lt}
 use Rattle.rows.proofs.Searches.{by-lowest, none-yet, passed, found}
 use Rattle.sizes.specs.Sizes.{mostSlots}
 use Rattle.arrangement.specs.Arrangement.{Valid}

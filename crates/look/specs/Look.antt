@@ -1,6 +1,6 @@
--- 01, "Rank and its digits": the flip by looking, which reads the arrangement only (the successor of 000 and 003). The slots in
--- front are falling as long as their modules go down from the front module, round from 1 to n, no module further than once
--- round, with the settings that go with it. The flip turns those slots.
+-- 01, "Rank and its digits": the flip by looking, which reads the arrangement only (the successor of 000 and 003). Slots fall from
+-- the front as long as their modules go down from the front module, on from 1 to n and down again, but not past the front module
+-- itself, and each has the setting that goes with it. The flip turns the slots that fall.
 use Prim.Native.Nat.{ℕ, suc, _+_, _-_}
 use mathlib.Core.Bool.{Bool, true, cond}
 use lib.Dec.{eqb, leb}

@@ -1,18 +1,16 @@
 -- The laws of the check of a rank: what its comparison with T comes to, and what a Fine verdict says. Assumes nothing.
-use mathlib.Core.Path.{_≡_, sym, _∙_}
+use mathlib.Core.Path.{_≡_}
 use mathlib.Core.Bool.{true, false}
 use mathlib.Core.List.{List}
 use Prim.Native.Nat.{ℕ, _<_, _≤_}
 use native.Mathlib.Omega.{arith}
 use lib.Dec.{leb}
-use lib.ListN.{length}
 use borrow.Author.Tests.{le-leb, lt-leb, leb-false}
 use Rattle.sizes.specs.declared.Verdict.the-variants.{Fine}
-use Rattle.sizes.specs.Sizes.{weight, Permitted, sizesVerdict}
-use Rattle.sizes.proofs.Refusals.{both-fine, no-fault, faultless, last-faultless, Small, small-first, small-if}
-use Rattle.sizes.proofs.Weights.{permitted, small-sizes}
-use Rattle.arrangement.specs.Check.{lengthVerdict, lentVerdict}
-use Rattle.arrangement.proofs.Validity.{has-length, accepted}
+use Rattle.sizes.specs.Sizes.{weight}
+use Rattle.sizes.proofs.Refusals.{both-fine, no-fault, Small, small-first, small-if}
+use Rattle.arrangement.specs.Check.{buffersVerdict, lentVerdict}
+use Rattle.arrangement.proofs.Validity.{Fit, fit, accepted, small-buffers}
 use Rattle.order.specs.Asked.{LentAsked, WriteAsked}
 use Rattle.order.specs.Check.{rankVerdict, lentRankVerdict}
 
@@ -30,34 +28,18 @@ lent-asked n k ms ss e =
     record { sizes = a .sizes; valid = a .valid-is; modules = a .modules; settings = a .settings }
 
 -- what is known of a rank and two buffers that are not refused
-pub record RankAccepted (n k r one : ℕ) (xs : List ℕ) (two : ℕ) (ys : List ℕ) : Type 0 where
-  pub sizes : Permitted n k
-  pub first-length : length xs ≡ one
-  pub second-length : length ys ≡ two
-  pub rank : r < weight n k
-
-pub rank-accepted : (n k r one : ℕ) (xs : List ℕ) (two : ℕ) (ys : List ℕ) → lentRankVerdict n k r one xs two ys ≡ Fine → RankAccepted n k r one xs two ys
+pub rank-accepted : (n k r : ℕ) (xs : List ℕ) (more : ℕ) (ys : List ℕ) → lentRankVerdict n k r xs more ys ≡ Fine → Fit n k xs more ys × (r < weight n k)
 unfolding lentRankVerdict rankVerdict
-rank-accepted n k r one xs two ys e =
-    let lengths = both-fine (sizesVerdict n k) _ e in
-    let second = both-fine (lengthVerdict one xs) _ (lengths .1) in
-    let last = both-fine (lengthVerdict two ys) _ (second .1) in
-    record {
-      sizes = permitted n k (lengths .0);
-      first-length = has-length one xs (second .0);
-      second-length = has-length two ys (last .0);
-      rank = leb-false (weight n k) r (no-fault 8 _ (last .1));
-    }
+rank-accepted n k r xs more ys e =
+    let both = both-fine (buffersVerdict n k xs more ys) _ e in
+    (fit n k xs more ys (both .0), leb-false (weight n k) r (no-fault 8 _ (both .1)))
 
 -- so an arrangement can be written into two buffers of n bytes
-pub write-asked : (n k r : ℕ) (ms ss : List ℕ) → lentRankVerdict n k r n ms n ss ≡ Fine → WriteAsked n k r ms ss
+pub write-asked : (n k r : ℕ) (ms ss : List ℕ) → lentRankVerdict n k r ms 0 ss ≡ Fine → WriteAsked n k r ms ss
 write-asked n k r ms ss e =
-    let a = rank-accepted n k r n ms n ss e in
-    record { sizes = a .sizes; rank = a .rank; modules = a .first-length; settings = a .second-length }
+    let a = rank-accepted n k r ms 0 ss e in
+    record { sizes = a .0 .sizes; rank = a .1; modules = a .0 .one; settings = omega (arith, a .0 .two) }
 
-pub small-rank : (n k r one : ℕ) (xs : List ℕ) (two : ℕ) (ys : List ℕ) → Small (lentRankVerdict n k r one xs two ys)
-unfolding lentRankVerdict lengthVerdict rankVerdict
-small-rank n k r one xs two ys =
-    small-first _ _ (small-sizes n k)
-    (λ fine. small-first _ _ (small-if 4 _ (omega arith))
-    (λ fine. small-first _ _ (small-if 4 _ (omega arith)) (λ fine. small-if 8 _ (omega arith))))
+pub small-rank : (n k r : ℕ) (xs : List ℕ) (more : ℕ) (ys : List ℕ) → Small (lentRankVerdict n k r xs more ys)
+unfolding lentRankVerdict rankVerdict
+small-rank n k r xs more ys = small-first _ _ (small-buffers n k xs more ys) (λ fine. small-if 8 _ (omega arith))

@@ -2,22 +2,22 @@
 -- definition; and what stands behind the slots stays within the bounds that let every place be renamed. Assumes nothing.
 use mathlib.Core.Path.{_≡_, refl, sym, ap, ap₂, _∙_, subst}
 use mathlib.Core.List.{List}
-use Prim.Native.Nat.{ℕ, zero, suc, _+_, _-_, _*_, _/_, _%_, _≤_, _<_}
-use native.Mathlib.Nat.{mod-lt, mod-one, div-one, mod-eq-of-lt, div-lt-iff-lt-mul, div-div-eq-div-mul, mul-le-mul, mul-comm, mul-pos, not-suc-le-zero, le-refl, le-trans}
+use Prim.Native.Nat.{ℕ, suc, _+_, _-_, _*_, _/_, _%_, _≤_, _<_}
+use native.Mathlib.Nat.{mod-lt, div-one, mod-eq-of-lt, div-div-eq-div-mul, mul-le-mul, mul-comm, mul-pos, le-trans}
 use native.Mathlib.Omega.{arith}
 use lib.ListN.{length, set, getD-replicate}
 use lib.Arith.{digits-lt, digits-div}
 use Rattle.rows.specs.Row.{at, row, front}
 use Rattle.rows.proofs.Cases.{by-lt, by-eq, by-last, if-lt, if-ge}
 use Rattle.rows.proofs.Rows.{length-row, at-row, row-ext, read, unread, rewritten, same-length, Placed, placed}
-use Rattle.sizes.specs.Sizes.{weight, Permitted, mostSlots, mostSettings, mostArrangements}
+use Rattle.sizes.specs.Sizes.{weight, Permitted, mostSlots, mostSettings}
 use Rattle.sizes.proofs.Weights.{weight-zero, weight-suc, weight-pos, weight-mono}
 use Rattle.arrangement.specs.Arrangement.{Cell, Valid}
 use Rattle.arrangement.specs.Copy.{wide, blank}
 use Rattle.arrangement.proofs.Validity.{valid-ext}
-use Rattle.order.specs.Rank.{lastDigit, moduleOf, settingOf, prefixModules, prefixSettings, rank, renamedModule, renamedSetting, restoredModule, restoredSetting, unrankModules, unrankSettings}
+use Rattle.order.specs.Rank.{lastDigit, moduleOf, settingOf, prefixModules, prefixSettings, rank, renamedModule, restoredModule, restoredSetting, unrankModules, unrankSettings}
 use Rattle.order.specs.Digits.{digit}
-use Rattle.order.specs.Asked.{Bounded, RenameAsked, PutAsked, RankAsked, LentAsked, RestoreAsked, UnrankAsked, Unranked, WriteAsked}
+use Rattle.order.specs.Asked.{Bounded, RenameAsked, PutAsked, RankAsked, LentAsked, RestoreAsked, UnrankAsked, Unranked}
 use Rattle.order.proofs.Renaming.{renamed-setting-lt, restored-above, restored-below, restored-setting-lt}
 use Rattle.order.proofs.Ranks.{rank-ext, rank-lt, prefix-valid, last-digit-lt, cell-of-digit, unrank-module-front, unrank-module-last, unrank-setting-front, unrank-setting-last}
 use Rattle.order.proofs.Digits.{digit-lt, rest-one-more, rest-of-rest}

@@ -4,14 +4,13 @@ use mathlib.Core.List.{List}
 use lib.Dec.{leb}
 use Rattle.sizes.specs.declared.Verdict.{Verdict}
 use Rattle.sizes.specs.Refusal.{first, refusedIf}
-use Rattle.sizes.specs.Sizes.{weight, sizesVerdict}
-use Rattle.arrangement.specs.Check.{lengthVerdict}
+use Rattle.sizes.specs.Sizes.{weight}
+use Rattle.arrangement.specs.Check.{buffersVerdict}
 
 -- 8: a rank is T or more
 unfoldable pub rankVerdict : ℕ → ℕ → ℕ → Verdict
 rankVerdict n k r = refusedIf 8 (leb (weight n k) r)
 
--- the check of n and k, of two lent buffers that should have one and two bytes, and of a rank: 1 to 4, and 8
-unfoldable pub lentRankVerdict : ℕ → ℕ → ℕ → ℕ → List ℕ → ℕ → List ℕ → Verdict
-lentRankVerdict n k r one xs two ys =
-    first (sizesVerdict n k) (first (lengthVerdict one xs) (first (lengthVerdict two ys) (rankVerdict n k r)))
+-- the check of n and k, of two lent buffers, of n bytes and of so many more, and of a rank: 1 to 4, and 8
+unfoldable pub lentRankVerdict : ℕ → ℕ → ℕ → List ℕ → ℕ → List ℕ → Verdict
+lentRankVerdict n k r xs more ys = first (buffersVerdict n k xs more ys) (rankVerdict n k r)

@@ -3,7 +3,7 @@
 use arrangement::copy;
 use arrangement::copy::WIDE;
 ghost use mathlib.Core.Path.{_≡_};
-ghost use Prim.Native.Nat.{suc, _+_, _/_, _%_, _≤_, _<_};
+ghost use Prim.Native.Nat.{suc, _+_, _/_, _≤_, _<_};
 ghost use lib.ListN.{set};
 ghost use Rattle.rows.specs.Row.{at, row};
 ghost use Rattle.rows.specs.Search.{ifLt};

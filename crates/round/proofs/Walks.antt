@@ -1,23 +1,25 @@
 -- One walk, three ways. The flip by looking and the flip of the board are both the flip out of the rank, so each way makes the
 -- flip that leads to the next rank, and t flips lead from rank r to (r + t) mod T. Ranks of valid arrangements are all numbers
 -- below T, each once; so T flips meet each arrangement once and come back. Assumes nothing.
-use mathlib.Core.Path.{_≡_, refl, sym, ap, _∙_}
+use mathlib.Core.Path.{_≡_, sym, ap, _∙_}
 use mathlib.Core.Bool.{true}
 use mathlib.Core.Logic.{_↔_}
 use mathlib.Core.List.{List}
-use Prim.Native.Nat.{ℕ, zero, suc, _+_, _-_, _*_, _^_, _%_, _≤_, _<_}
+use Prim.Native.Nat.{ℕ, zero, suc, _+_, _-_, _%_, _≤_, _<_}
 use native.Mathlib.Nat.{mod-eq-of-lt, mod-add-mod, add-mod-mod, add-mod-right}
 use native.Mathlib.Omega.{arith}
 use Rattle.rows.proofs.Cases.{by-lt}
-use Rattle.sizes.specs.Sizes.{weight}
+use Rattle.sizes.specs.Sizes.{weight, Permitted}
 use Rattle.arrangement.proofs.Flips.{flipped-valid}
-use Rattle.order.specs.Rank.{rank}
 use Rattle.order.specs.Digits.{flipOut, nextRank}
 use Rattle.order.proofs.Ranks.{rank-ext, rank-lt, rank-once-module, rank-once-setting}
 use Rattle.look.proofs.Looks.{look-is, look-rank, look-step}
-use Rattle.board.specs.Board.{IsBoard}
 use Rattle.board.specs.Step.{closes, stepFlip, steppedCounters, steppedPointers}
+use Rattle.board.specs.Read.{Reads}
+use Rattle.board.specs.declared.read.Reading.{Reading}
+use Rattle.board.specs.declared.read.Reading.the-variants.{Rank}
 use Rattle.board.proofs.Steps.{step-board, step-flip, step-closes}
+use Rattle.board.proofs.Readings.{one-reading, board-read}
 use Rattle.round.specs.Walk.{Arrangement, Same, ValidArrangement, rankOf, lookAt, flipped, walked, InHand}
 
 -- arrangements of one rank are the same
@@ -104,3 +106,7 @@ module _ (n k : ℕ) (k-low : 1 ≤ k) (n-low : 1 ≤ n) where
     -- the board says that the round closed exactly where the next rank is 0
     pub board-closes : (closes n k fs ≡ true) ↔ (nextRank n k r ≡ 0)
     board-closes = step-closes k-low n-low rank-here (here .board)
+
+    -- and the number is read off the board, so that it can be handed over from there, too
+    pub board-number : Permitted n k → (w : Reading) → Reads n k cs fs w → w ≡ Rank r
+    board-number sizes w reads = one-reading n k cs fs w (Rank r) reads (board-read sizes rank-here (here .board))

@@ -1,9 +1,9 @@
 -- The laws of `lowest`. A slot at which a test holds, with none below it, stays the lowest however many slots follow; so a
 -- loop that looks from the front and has found nothing yet knows that `lowest` of the slots passed is 0. Assumes nothing.
-use mathlib.Core.Path.{_≡_, refl, sym, _∙_, ap}
+use mathlib.Core.Path.{_≡_, refl, sym, _∙_}
 use mathlib.Core.Bool.{Bool, true, false, cond}
 use Prim.Native.Nat.{ℕ, zero, suc, _+_, _<_, _≤_}
-use native.Mathlib.Nat.{not-suc-le-zero, le-of-suc-le-suc}
+use native.Mathlib.Nat.{not-suc-le-zero}
 use native.Mathlib.Numerals.{add-one}
 use native.Mathlib.Omega.{arith}
 use Rattle.rows.specs.Search.{orElse, lowest}

@@ -1,10 +1,10 @@
 -- The laws of the weight, and what the check of n and k comes to. One place more multiplies the weight by k × n, which is not
 -- 0, so weights grow with n: the largest n of each k tells all the sizes that have too many arrangements. Assumes nothing.
-use mathlib.Core.Path.{_≡_, refl, sym, _∙_}
-use mathlib.Core.Bool.{Bool, true, false}
+use mathlib.Core.Path.{_≡_, sym, _∙_}
+use mathlib.Core.Bool.{Bool}
 use mathlib.Core.List.{List, [], _∷_}
-use Prim.Native.Nat.{ℕ, zero, suc, _+_, _*_, _^_, _-_, _≤_, _<_}
-use native.Mathlib.Nat.{mul-assoc, mul-comm, mul-left-comm, pow-succ', le-trans, le-refl, one-le-mul, one-le-pow, mul-le-mul-right, mul-le-mul}
+use Prim.Native.Nat.{ℕ, zero, suc, _+_, _*_, _^_, _≤_, _<_}
+use native.Mathlib.Nat.{mul-assoc, mul-comm, mul-left-comm, pow-succ', le-trans, le-refl, one-le-mul, mul-le-mul-right, mul-le-mul}
 use native.Mathlib.Numerals.{add-one, unary-clauses}
 use native.Mathlib.Omega.{arith}
 use lib.Dec.{ltb, ltb→lt}
@@ -68,7 +68,7 @@ computed n (suc k) h l g =
     same-eq (ltb (at largest (suc k)) n) (ltb mostArrangements (weight n (suc k))) (passes (cell k) 22 (passes line 8 tt k (omega arith)) n (omega arith))
 
 -- 21 slots are too many for each of them
-past : (k : ℕ) → 1 ≤ k → k ≤ mostSettings → at largest k < 21
+pub past : (k : ℕ) → 1 ≤ k → k ≤ mostSettings → at largest k < 21
 past zero h l = absurd (omega arith)
 past (suc k) h l = ltb→lt (at largest (suc k)) 21 (passes (λ k. ltb (at largest (suc k)) 21) 8 tt k (omega arith))
 

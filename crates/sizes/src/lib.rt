@@ -26,7 +26,7 @@ pub const MOST_SLOTS: usize = 20;
 pub const MOST_SETTINGS: usize = 8;
 
 // By k: the largest n whose T is below 2^64. No product has to be worked out to refuse.
-const LARGEST: [usize; 9] = [0, 20, 16, 14, 13, 13, 12, 12, 11];
+const LARGEST: [u8; 9] = [0, 20, 16, 14, 13, 13, 12, 12, 11];
 
 // The check of n and k, for any two numbers.
 pub fn judge(n: usize, k: usize) -> Verdict
@@ -44,7 +44,7 @@ pub fn judge(n: usize, k: usize) -> Verdict
     if MOST_SETTINGS < k {
         return Verdict::Refused(2, 0);
     }
-    if LARGEST[k] < n {
+    if (LARGEST[k] as usize) < n {
         return Verdict::Refused(3, 0);
     }
     Verdict::Fine

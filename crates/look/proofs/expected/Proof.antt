@@ -1,7 +1,6 @@
 -- `look::expected` meets its contract: its two cases are those of the choice. Assumes nothing.
 use mathlib.Core.Path.{sym}
 use Rattle.rows.proofs.Cases.{if-lt, if-ge}
-use borrow.Author.Needs.{needs}
 use Rattle.look.proofs.expected.Statement.{statement}
 use Rattle.look.proofs.expected.Tie as tie
 

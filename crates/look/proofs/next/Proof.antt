@@ -1,5 +1,5 @@
 -- `look::next` meets its contract: the flip found by looking is made, over all n places of both rows. Assumes nothing.
-use mathlib.Core.Path.{_≡_, _∙_, ap}
+use mathlib.Core.Path.{_∙_, ap}
 use borrow.Author.Needs.{needs}
 use Rattle.rows.specs.Row.{row}
 use Rattle.look.proofs.Looks.{look-flippable}

@@ -1,12 +1,13 @@
 -- `sizes::judge` meets its contract. Each return follows from the tests that led to it; past those of n and k the table says
 -- whether T is too large. Assumes nothing.
 use mathlib.Core.Path.{sym, _∙_}
+use native.Mathlib.Omega.{arith}
 use borrow.Author.Needs.{needs}
 use borrow.Author.Tests.{lt-ltb, le-ltb}
 use Rattle.rows.proofs.Cases.{below-range, above-range, in-range}
 use Rattle.sizes.specs.Sizes.{sizesVerdict, mostSlots, mostSettings}
 use Rattle.sizes.proofs.Refusals.{faulty, faultless, last-faulty, last-faultless}
-use Rattle.sizes.proofs.Weights.{too-many}
+use Rattle.sizes.proofs.Weights.{past, too-many}
 use Rattle.sizes.proofs.judge.Statement.{statement}
 use Rattle.sizes.proofs.judge.Tie as tie
 
@@ -30,11 +31,11 @@ returns-4 c =
     faultless 1 (in-range 1 mostSlots _ (c .before .before .before .if1 .left) (c .before .before .if2 .left))
     (faulty 2 _ (above-range 1 mostSettings _ (c .before .if3 .left) (c .if4 .taken)))
 
-mul-if5 : tie.Need-mul-if5
-mul-if5 c = search needs
-
 array-read-if5 : tie.Need-array-read-if5
 array-read-if5 c = search needs
+
+cast-if5 : tie.Need-cast-if5
+cast-if5 c = omega (arith, past _ (c .before .if3 .left) (c .if4 .left))
 
 returns-5 : tie.Need-returns-5
 unfolding sizesVerdict
@@ -55,4 +56,4 @@ returns-6 c =
 pub judge-spec : {M : Type 1} → statement M
 judge-spec =
     tie.close
-    (tie.spec returns returns-2 returns-3 returns-4 mul-if5 array-read-if5 returns-5 returns-6)
+    (tie.spec returns returns-2 returns-3 returns-4 array-read-if5 cast-if5 returns-5 returns-6)

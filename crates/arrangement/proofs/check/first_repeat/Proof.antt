@@ -1,5 +1,5 @@
 -- `arrangement::check::first_repeat` meets its contract: where no module stands twice there is no slot to find. Assumes nothing.
-use mathlib.Core.Path.{_≡_, sym, _∙_}
+use mathlib.Core.Path.{sym, _∙_}
 use borrow.Author.Tests.{eqb-true}
 use borrow.Author.Needs.{needs}
 use Rattle.arrangement.proofs.check.first_repeat.Statement.{statement}

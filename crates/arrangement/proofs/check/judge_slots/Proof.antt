@@ -7,7 +7,7 @@ use Rattle.rows.specs.Row.{at}
 use Rattle.rows.specs.Search.{lowest}
 use Rattle.sizes.specs.Refusal.{refusedAt}
 use Rattle.sizes.proofs.Refusals.{stops, goes-on, was-fine}
-use Rattle.arrangement.specs.Check.{badModule, repeated, badSetting, slotsVerdict}
+use Rattle.arrangement.specs.Check.{badModule, repeated, slotsVerdict}
 use Rattle.arrangement.proofs.Checks.{searched, place-le, module-place, setting-place, modules-marked}
 use Rattle.arrangement.proofs.check.judge_slots.Statement.{statement}
 use Rattle.arrangement.proofs.check.judge_slots.Tie as tie

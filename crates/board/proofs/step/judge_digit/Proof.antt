@@ -1,5 +1,4 @@
 -- `board::step::judge_digit` meets its contract: its comparisons are those of the check, in its order. Assumes nothing.
-use mathlib.Core.Path.{_≡_}
 use native.Mathlib.Omega.{arith}
 use Rattle.board.proofs.Verdicts.{product-range, counter-high, stays-open, end-low, end-high, end-fine}
 use borrow.Author.Needs.{needs}

@@ -1,8 +1,7 @@
 -- `board::step::lowest_digit` meets its contract: its two cases are those of the definition. Assumes nothing.
-use mathlib.Core.Path.{_≡_, sym, ap, _∙_}
+use mathlib.Core.Path.{sym, ap, _∙_}
 use Rattle.board.specs.Board.{lowestDigit}
 use Rattle.board.proofs.Runs.{lowest-one, lowest-more}
-use borrow.Author.Needs.{needs}
 use Rattle.board.proofs.step.lowest_digit.Statement.{statement}
 use Rattle.board.proofs.step.lowest_digit.Tie as tie
 

@@ -30,9 +30,6 @@ digit c =
 place-requires : tie.Need-place-requires
 place-requires c κs = let fits = lowest-fits (c .before) in (fits .0, fits .1)
 
-add-if1 : tie.Need-add-if1
-add-if1 c = search needs
-
 put-requires : tie.Need-put-requires
 put-requires c κs = lowest-fits (c .before .before .before .before)
 
@@ -105,7 +102,6 @@ step-spec =
     (tie.spec
     lowest-digit-requires
     place-requires
-    add-if1
     put-requires
     same-length
     returns

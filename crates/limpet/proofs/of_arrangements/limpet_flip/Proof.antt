@@ -1,6 +1,6 @@
 -- `limpet_flip` keeps its promise: where the verdict refuses nothing is written, and else the flip is made, whose `row` of as
 -- many slots as the buffer has is the row of n slots. Assumes nothing.
-use mathlib.Core.Path.{_≡_, refl, _∙_, ap}
+use mathlib.Core.Path.{refl, _∙_, ap}
 use borrow.Author.Needs.{needs}
 use lib.ListN.{length}
 use Rattle.rows.specs.Row.{row}

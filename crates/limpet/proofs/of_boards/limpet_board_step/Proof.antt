@@ -1,5 +1,5 @@
 -- `limpet_board_step` keeps its promise: where the verdict refuses nothing is written, and else the step is made. Assumes nothing.
-use mathlib.Core.Path.{_≡_, refl, _∙_, ap}
+use mathlib.Core.Path.{refl, _∙_, ap}
 use native.Mathlib.Omega.{arith}
 use lib.ListN.{length}
 use Rattle.sizes.proofs.Refusals.{was-fine}

@@ -1,10 +1,10 @@
 -- `limpet_board_write` keeps its promise: where the verdict refuses nothing is written, and else the board of the rank is.
 -- Assumes nothing.
-use mathlib.Core.Path.{_≡_, refl, sym, _∙_, ap}
+use mathlib.Core.Path.{refl, sym, _∙_, ap}
 use lib.ListN.{length}
-use Rattle.rows.proofs.Rows.{length-row}
 use Rattle.sizes.proofs.Refusals.{was-fine}
 use Rattle.board.specs.Asked.{BoardAsked}
+use Rattle.board.proofs.Runs.{counters-long, pointers-long}
 use Rattle.board.proofs.Verdicts.{board-asked}
 use Rattle.limpet.specs.Calls.{boardLeaves}
 use Rattle.limpet.proofs.Answers.{refused-leaves, done-leaves}
@@ -47,19 +47,19 @@ pack-requires-2 c κs = search needs
 same-length-3 : tie.Need-same-length-3
 same-length-3 c =
     let written = c .before .before .before .before .before in
-    ap length (written .write .ensures .counters) ∙ length-row _ _ ∙ sym (asked (written .before .before .before) .lent .counters)
+    ap length (written .write .ensures .counters-are) ∙ counters-long _ _ _ ∙ sym (asked (written .before .before .before) .lent .counters)
 
 same-length-4 : tie.Need-same-length-4
 same-length-4 c =
     let written = c .before .before .before .before .before in
-    ap length (written .write .ensures .pointers) ∙ length-row _ _ ∙ sym (asked (written .before .before .before) .lent .pointers)
+    ap length (written .write .ensures .pointers-are) ∙ pointers-long _ _ _ ∙ sym (asked (written .before .before .before) .lent .pointers)
 
 returns-2 : tie.Need-returns-2
 unfolding boardLeaves
 returns-2 c =
     let written = c .before .before .before .before .before in
     let passed = written .before .before .before in
-    done-leaves 0 _ _ _ _ (passed .before .before .judge .ensures) (passed .before .refuses .ensures) (passed .if1 .left) (c .pack2 .ensures) (written .write .ensures .counters) (written .write .ensures .pointers)
+    done-leaves 0 _ _ _ _ (passed .before .before .judge .ensures) (passed .before .refuses .ensures) (passed .if1 .left) (c .pack2 .ensures) (written .write .ensures .counters-are) (written .write .ensures .pointers-are)
 
 pub limpet-board-write-spec : {M : Type 1} → statement M
 limpet-board-write-spec =

@@ -1,5 +1,4 @@
 -- `step_value` meets its contract: the flip is below 256, so the round's bit stands above it. Assumes nothing.
-use mathlib.Core.Path.{_≡_}
 use native.Mathlib.Omega.{arith}
 use borrow.Author.Needs.{needs}
 use Rattle.limpet.proofs.of_boards.step_value.Statement.{statement}

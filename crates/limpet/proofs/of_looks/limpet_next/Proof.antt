@@ -1,6 +1,6 @@
 -- `limpet_next` keeps its promise: where the verdict refuses nothing is written, and else the flip found by looking is made.
 -- Assumes nothing.
-use mathlib.Core.Path.{_≡_, refl, sym, _∙_, ap}
+use mathlib.Core.Path.{refl, sym, _∙_, ap}
 use native.Mathlib.Omega.{arith}
 use lib.ListN.{length}
 use Rattle.rows.proofs.Rows.{length-row}

@@ -1,6 +1,6 @@
 -- `limpet_unrank` keeps its promise: where the verdict refuses nothing is written, and else the arrangement of the rank is.
 -- Assumes nothing.
-use mathlib.Core.Path.{_≡_, refl, sym, _∙_, ap}
+use mathlib.Core.Path.{refl, sym, _∙_, ap}
 use borrow.Author.Needs.{needs}
 use lib.ListN.{length}
 use Rattle.rows.proofs.Rows.{length-row}

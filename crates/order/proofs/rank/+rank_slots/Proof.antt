@@ -1,7 +1,6 @@
 -- `order::rank::rank_slots` meets its contract. Of one slot the rank is the setting; of more, the call on one slot fewer is
 -- handed the rows renamed, and the last digit is put above their rank. The measure is n. Assumes nothing.
 use Prim.Native.Nat.{ℕ, _-_, _<_}
-use borrow.Author.Needs.{needs}
 use borrow.Fn.Kinds.{In}
 use borrow.Fn.PlainCycle.{Measures, is, falls, and}
 use native.Mathlib.Omega.{arith}

@@ -4,7 +4,6 @@ use Prim.Native.Nat.{_+_, _*_}
 use native.Mathlib.Omega.{arith}
 use Rattle.order.specs.Rank.{lastDigit}
 use Rattle.order.proofs.Recursion.{put-weight, put-lt, factor-fits}
-use borrow.Author.Needs.{needs}
 use Rattle.order.proofs.rank.put_last.Statement.{statement}
 use Rattle.order.proofs.rank.put_last.Tie as tie
 

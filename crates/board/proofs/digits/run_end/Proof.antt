@@ -1,15 +1,15 @@
--- `board::write::run_end` meets its contract. The loop's invariant: the digits from j on that it has passed are full, so the run
+-- `board::digits::run_end` meets its contract. The loop's invariant: the digits from j on that it has passed are full, so the run
 -- ends where the one from here on ends. The measure is the number of digits left. Assumes nothing.
 use Prim.Native.Nat.{suc, _-_}
 use native.Mathlib.Omega.{arith}
 use borrow.Author.Tests.{not-true, not-false}
 use Rattle.board.proofs.Writing.{Running, running-first, run-stopped, running-on, run-reached}
 use borrow.Author.Needs.{needs}
-use Rattle.board.proofs.write.run_end.Statement.{statement}
-use Rattle.board.proofs.write.run_end.Tie as tie
+use Rattle.board.proofs.digits.run_end.Statement.{statement}
+use Rattle.board.proofs.digits.run_end.Tie as tie
 
 abbrev Inv-loop : tie.InvT-loop
-Inv-loop n k j digits end₀ end = Running n k j digits end
+Inv-loop n k j digits end₀ end = Running n k digits j end
 
 abbrev μ-loop : tie.MeasureT-loop
 μ-loop n k j digits end₀ end = suc n - end
@@ -38,7 +38,7 @@ loop-less : tie.Need-loop-less Inv-loop μ-loop
 loop-less c = search needs
 
 loop-again : tie.Need-loop-again Inv-loop μ-loop
-loop-again c = running-on (c .before .before .before .loop .inv) (c .before .before .loop-test .taken) (c .before .is-full .ensures) (not-false _ (c .if1 .left))
+loop-again c = running-on (c .before .before .before .loop .inv) (c .before .is-full .ensures) (c .before .before .loop-test .taken) (not-false _ (c .if1 .left))
 
 returns-2 : tie.Need-returns-2 Inv-loop μ-loop
 returns-2 c = run-reached (c .before .loop .inv) (c .loop-test .left)

@@ -1,4 +1,4 @@
--- `board::write::digits` meets its contract. The loop's invariant: the first i digits are taken off, and what is left is the
+-- `board::write::take_digits` meets its contract. The loop's invariant: the first i digits are taken off, and what is left is the
 -- rank divided by their weight. The measure is n less i. Assumes nothing.
 use Prim.Native.Nat.{suc, _+_, _-_, _*_, _/_, _≤_}
 use mathlib.Core.Path.{_≡_, _∙_}
@@ -10,10 +10,10 @@ use Rattle.arrangement.specs.Copy.{blank}
 use Rattle.order.specs.Digits.{digit}
 use Rattle.board.proofs.Writing.{none-taken, digit-taken, above-taken, TakenFits, next-fits}
 use borrow.Author.Needs.{needs}
-use Rattle.board.proofs.write.digits.Statement.{statement}
-use Rattle.board.proofs.write.digits.Tie as tie
-use Rattle.board.proofs.write.digits.Reads as reads
-use Rattle.board.proofs.write.digits.Lts as lts
+use Rattle.board.proofs.write.take_digits.Statement.{statement}
+use Rattle.board.proofs.write.take_digits.Tie as tie
+use Rattle.board.proofs.write.take_digits.Reads as reads
+use Rattle.board.proofs.write.take_digits.Lts as lts
 
 abbrev Inv-loop : tie.InvT-loop
 Inv-loop n k rank taken₀ above₀ i₀ taken above i = (i ≤ n) × (above ≡ rank / weight i k) × (taken ≡ front (λ i. digit k rank (suc i)) i blank)
@@ -64,8 +64,8 @@ returns : tie.Need-returns Inv-loop μ-loop
 returns c =
     let e : c .before .loop .i ≡ c .before .before .args .n = omega arith in c .before .loop .inv .2 ∙ rw e
 
-pub digits-spec : {M : Type 1} → statement M
-digits-spec =
+pub take-digits-spec : {M : Type 1} → statement M
+take-digits-spec =
     tie.close
     (tie.spec
     Inv-loop
