@@ -16,6 +16,7 @@ use Rattle.board.specs.Board.{counters, pointers}
 use Rattle.board.specs.Step.{closes, stepFlip, lentStepVerdict, steppedCounters, steppedPointers}
 use Rattle.board.specs.Read.{Reads, verdictOf}
 use Rattle.board.specs.declared.read.Reading.{Reading}
+use Rattle.walk.specs.Pair.{pairVerdict, pairCount}
 use Rattle.limpet.specs.Answer.{answerOf, packed, Outcome, outcome}
 
 -- limpet_round: the check of n and k
@@ -77,3 +78,7 @@ pub record ReadReturns (shown : Reading → ℕ) (n k : ℕ) (cs fs : List ℕ) 
 -- limpet_board_read shows whether it was refused, and limpet_board_read_rank its rank, `rankRead`
 unfoldable pub verdictShown : Reading → ℕ
 verdictShown reading = packed (answerOf (verdictOf reading) 0)
+
+-- limpet_pair_count: in how many arrangements of the stretch v:c stands in some slot and w:e in the next
+unfoldable pub pairReturns : ℕ → ℕ → ℕ → ℕ → ℕ → ℕ → ℕ → ℕ → ℕ
+pairReturns n k r t v c w e = packed (answerOf (pairVerdict n k r t v c w e) (pairCount n k r t v c w e))

@@ -6,3 +6,4 @@ pub mod of_boards;
 pub mod of_looks;
 pub mod of_ranks;
 pub mod of_sizes;
+pub mod of_stretches;
