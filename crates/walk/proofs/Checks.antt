@@ -1,15 +1,15 @@
 -- The laws of the checks of a stretch and of a pair: each comparison decides one test of the definition. Assumes nothing.
 use mathlib.Core.Path.{_≡_}
 use mathlib.Core.Bool.{Bool, true, false, cond}
-use Prim.Native.Nat.{ℕ}
+use Prim.Native.Nat.{ℕ, _<_}
 use native.Mathlib.Omega.{arith}
 use borrow.Author.Tests.{leb-false, ltb-false}
 use Rattle.sizes.specs.declared.Verdict.the-variants.{Fine}
-use Rattle.sizes.specs.Sizes.{weight, sizesVerdict}
+use Rattle.sizes.specs.Sizes.{weight, sizesVerdict, Permitted}
 use Rattle.sizes.proofs.Refusals.{both-fine, no-fault, Small, small-first, small-if}
 use Rattle.sizes.proofs.Weights.{permitted, small-sizes}
 use Rattle.order.specs.Check.{rankVerdict}
-use Rattle.walk.specs.Stretch.{mostCounted, countVerdict, stretchVerdict}
+use Rattle.walk.specs.Stretch.{mostCounted, countVerdict, startVerdict, stretchVerdict}
 use Rattle.walk.specs.Pair.{pairVerdict}
 use Rattle.walk.specs.Asked.{StretchAsked}
 
@@ -20,17 +20,19 @@ bad rest t = rw t
 pub good : {b x rest : Bool} → b ≡ false → x ≡ rest → x ≡ cond b true rest
 good f e = rw f e
 
+-- a start that is not refused
+pub start-asked : (n k r : ℕ) → startVerdict n k r ≡ Fine → Permitted n k × (r < weight n k)
+unfolding startVerdict rankVerdict
+start-asked n k r e =
+    let fine = both-fine (sizesVerdict n k) _ e in (permitted n k (fine .0), leb-false (weight n k) r (no-fault 8 _ (fine .1)))
+
 -- a stretch that is not refused
 pub stretch-asked : (n k r t : ℕ) → stretchVerdict n k r t ≡ Fine → StretchAsked n k r t
-unfolding stretchVerdict rankVerdict countVerdict
+unfolding stretchVerdict countVerdict
 stretch-asked n k r t e =
-    let sizes = both-fine (sizesVerdict n k) _ e in
-    let rest = both-fine (rankVerdict n k r) _ (sizes .1) in
-    record {
-      sizes = permitted n k (sizes .0);
-      rank = leb-false (weight n k) r (no-fault 8 _ (rest .0));
-      count = ltb-false mostCounted t (no-fault 11 _ (rest .1));
-    }
+    let fine = both-fine (startVerdict n k r) _ e in
+    let start = start-asked n k r (fine .0) in
+    record { sizes = start .0; rank = start .1; count = ltb-false mostCounted t (no-fault 11 _ (fine .1)) }
 
 pub pair-asked : (n k r t v c w e : ℕ) → pairVerdict n k r t v c w e ≡ Fine → StretchAsked n k r t
 unfolding pairVerdict
@@ -38,9 +40,9 @@ pair-asked n k r t v c w e fine = stretch-asked n k r t (both-fine (stretchVerdi
 
 -- numbers and places fit a byte each
 pub small-stretch : (n k r t : ℕ) → Small (stretchVerdict n k r t)
-unfolding stretchVerdict rankVerdict countVerdict
+unfolding stretchVerdict startVerdict rankVerdict countVerdict
 small-stretch n k r t =
-    small-first _ _ (small-sizes n k) (λ fine. small-first _ _ (small-if 8 _ (omega arith)) (λ fine. small-if 11 _ (omega arith)))
+    small-first _ _ (small-first _ _ (small-sizes n k) (λ fine. small-if 8 _ (omega arith))) (λ fine. small-if 11 _ (omega arith))
 
 pub small-pair : (n k r t v c w e : ℕ) → Small (pairVerdict n k r t v c w e)
 unfolding pairVerdict

@@ -2,8 +2,11 @@
 use Prim.Native.Nat.{ℕ, suc, _≤_, _<_}
 use mathlib.Core.Path.{_≡_}
 use mathlib.Core.Bool.{Bool, false, cond}
+use mathlib.Core.List.{List}
 use lib.Dec.{leb, eqb}
+use Rattle.rows.specs.Row.{at}
 use Rattle.sizes.specs.Sizes.{weight, Permitted}
+use Rattle.arrangement.specs.Arrangement.{Valid}
 use Rattle.walk.specs.Stretch.{mostCounted}
 
 -- a stretch
@@ -22,3 +25,8 @@ pub record Seated (n k : ℕ) (M S : ℕ → ℕ) (v x s : ℕ) : Type 0 where
 -- of two seats, slot x at setting s and slot y at setting u: y is the next after x and one of n slots, s is c and u is e
 unfoldable pub together : ℕ → ℕ → ℕ → ℕ → ℕ → ℕ → ℕ → Bool
 together n x s y u c e = cond (eqb (suc x) y) (cond (leb n y) false (cond (eqb s c) (eqb u e) false)) false
+
+-- a valid arrangement in the first n places of two rows by value
+pub record PlacesAsked (n k : ℕ) (ms ss : List ℕ) : Type 0 where
+  pub sizes : Permitted n k
+  pub valid : Valid n k (at ms) (at ss)

@@ -1,3 +1,4 @@
 pub mod Stretch
 pub mod Pair
+pub mod Hand
 pub mod Asked

@@ -19,6 +19,10 @@ mostCounted = 65536
 unfoldable pub countVerdict : ℕ → Verdict
 countVerdict t = refusedIf 11 (ltb mostCounted t)
 
--- the check of a stretch: 1, 2, 3, 8 and 11
+-- the check of n, k and a start rank: 1, 2, 3 and 8
+unfoldable pub startVerdict : ℕ → ℕ → ℕ → Verdict
+startVerdict n k r = first (sizesVerdict n k) (rankVerdict n k r)
+
+-- the check of a stretch: 11 too
 unfoldable pub stretchVerdict : ℕ → ℕ → ℕ → ℕ → Verdict
-stretchVerdict n k r t = first (sizesVerdict n k) (first (rankVerdict n k r) (countVerdict t))
+stretchVerdict n k r t = first (startVerdict n k r) (countVerdict t)
