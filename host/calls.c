@@ -6,6 +6,8 @@
 #include "limpet.h"
 #include "reference.h"
 #include "reference_board.h"
+#include "reference_pair.h"
+#include "stretches.h"
 
 const struct call round_call = {.name = "round",
                                 .refusals = {1, 2, 3},
@@ -91,3 +93,9 @@ const struct call board_read_rank_call = {.name = "board read rank",
                                           .plain = true,
                                           .fair = random_board,
                                           .longer = {[POINTERS] = 1}};
+
+const struct call pair_call = {.name = "pair count",
+                               .refusals = {1, 2, 3, 8, 11, 12},
+                               .library.counting = limpet_pair_count,
+                               .reference.counting = reference_pair_count,
+                               .fair = random_stretch};

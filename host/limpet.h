@@ -31,6 +31,8 @@
  *    8  a rank is T or more
  *    9  a flip length is 0 or above n
  *   10  a board is false, as said with limpet_board_step and limpet_board_read
+ *   11  a count t is above 65,536
+ *   12  a pair has a module outside 1..n, the same module twice or a setting of k or more
  *
  * The place of 5, 6 and 7 is the lowest bad slot, counted from 1; for 6 the lowest slot whose module
  * already stands in a lower slot. Each is tried over all slots before the next. The place of every other
@@ -44,6 +46,7 @@
 
 #define LIMPET_MOST_SLOTS 20
 #define LIMPET_MOST_SETTINGS 8
+#define LIMPET_MOST_COUNTED 65536
 
 #define LIMPET_NUMBER(answer) ((uint64_t)(answer) & 0xff)
 #define LIMPET_PLACE(answer) ((uint64_t)(answer) >> 8 & 0xff)
@@ -126,6 +129,14 @@ uint64_t limpet_board_read(size_t n, size_t k, const uint8_t *counters, size_t c
 /* The plain number of the rank whose board this is, or 0 where limpet_board_read refuses. */
 uint64_t limpet_board_read_rank(size_t n, size_t k, const uint8_t *counters, size_t counters_length,
                                 const uint8_t *pointers, size_t pointers_length);
+
+/*
+ * The pair count: of the t arrangements from the rank on, the number of those in which module v at setting c
+ * stands in some slot and module w at setting e in the next. After T-1 comes home, as often as t leads there,
+ * and an arrangement met twice counts twice. Value: that number, 0 to t. Refusals 1, 2, 3, then 8, 11, 12.
+ */
+uint64_t limpet_pair_count(size_t n, size_t k, uint64_t rank, uint64_t t, size_t v, size_t c, size_t w,
+                           size_t e);
 
 #ifdef __cplusplus
 }

@@ -234,6 +234,16 @@ uint64_t reference_next(size_t n, size_t k, uint8_t *modules, size_t modules_len
     return unchecked_next(n, k, modules, modules_length, settings, settings_length);
 }
 
+uint64_t unchecked_flip(size_t n, size_t k, size_t j, uint8_t *modules, size_t modules_length,
+                        uint8_t *settings, size_t settings_length)
+{
+    (void)n;
+    (void)modules_length;
+    (void)settings_length;
+    flip(k, j, modules, settings);
+    return DONE;
+}
+
 uint64_t unchecked_rank_value(size_t n, size_t k, const uint8_t *modules, size_t modules_length,
                               const uint8_t *settings, size_t settings_length)
 {

@@ -31,6 +31,8 @@ uint64_t reference_next(size_t n, size_t k, uint8_t *modules, size_t modules_len
                         size_t settings_length);
 
 /* The same without a check, to be timed: what the call takes is all that may be passed. */
+uint64_t unchecked_flip(size_t n, size_t k, size_t j, uint8_t *modules, size_t modules_length,
+                        uint8_t *settings, size_t settings_length);
 uint64_t unchecked_rank_value(size_t n, size_t k, const uint8_t *modules, size_t modules_length,
                               const uint8_t *settings, size_t settings_length);
 uint64_t unchecked_unrank(size_t n, size_t k, uint64_t rank, uint8_t *modules, size_t modules_length,

@@ -5,6 +5,7 @@
 #include "limpet.h"
 #include "reference.h"
 #include "reference_board.h"
+#include "stretches.h"
 
 enum { LENGTHS = 6 };
 
@@ -36,6 +37,8 @@ static void spoil(const struct call *call, struct asked *asked, unsigned number,
     case 8: asked->argument = rank_beyond(draw(RANKS_BEYOND), asked->argument, total); break;
     case 9: asked->argument = beyond(draw(BEYOND), asked->argument, asked->n); break;
     case 10: pointers[s - 1] = (uint8_t)(draw(4) == 0 ? draw(s) : 255 - draw(254 - asked->n)); break;
+    case 11: asked->count = count_beyond(draw(COUNTS_BEYOND), asked->count); break;
+    case 12: asked->pair = bad_pair(draw(BAD_PAIRS), asked->pair, asked->n, asked->k); break;
     default: break;
     }
 }
@@ -142,6 +145,15 @@ static void ranks_beyond(const struct call *call, size_t n, size_t k)
     }
 }
 
+static void counts_beyond(const struct call *call, size_t n, size_t k)
+{
+    for (size_t which = 0; which < COUNTS_BEYOND; which++) {
+        struct asked asked = call->fair(n, k);
+        asked.count = count_beyond(which, asked.count);
+        expect_refused(call, &asked, 11, 0);
+    }
+}
+
 static uint8_t take_digit(unsigned *code, unsigned base)
 {
     const unsigned digit = *code % base;
@@ -164,23 +176,48 @@ static void small_inputs(const struct call *call)
     }
 }
 
-void refusal_tests(const struct call *call)
+/* For any call: the sizes, and faults that meet. */
+static void fault_tests(const struct call *call)
 {
     static const struct test tests[] = {
         {"good inputs of every size; 1, 2 and 3 for bad sizes", .once = sizes},
-        {"4 for either buffer shorter, longer or empty", .at_every_size = lengths},
         {"of two faults the lower number, of one number the lower slot", .once = two_faults},
         {"good and damaged inputs at random", .once = random_inputs},
     };
     run_tests(call, tests, COUNT_OF(tests));
 }
 
-void rank_refusal_tests(const struct call *call)
+/* For a call that takes a rank. */
+static void rank_beyond_tests(const struct call *call)
 {
     static const struct test tests[] = {
         {"8 for T, T+1 and far beyond", .at_every_size = ranks_beyond},
     };
+    run_tests(call, tests, COUNT_OF(tests));
+}
+
+void refusal_tests(const struct call *call)
+{
+    static const struct test tests[] = {
+        {"4 for either buffer shorter, longer or empty", .at_every_size = lengths},
+    };
+    fault_tests(call);
+    run_tests(call, tests, COUNT_OF(tests));
+}
+
+void rank_refusal_tests(const struct call *call)
+{
     refusal_tests(call);
+    rank_beyond_tests(call);
+}
+
+void stretch_refusal_tests(const struct call *call)
+{
+    static const struct test tests[] = {
+        {"11 for a count of 65,537 and far beyond", .at_every_size = counts_beyond},
+    };
+    fault_tests(call);
+    rank_beyond_tests(call);
     run_tests(call, tests, COUNT_OF(tests));
 }
 

@@ -10,6 +10,9 @@ void refusal_tests(const struct call *call);
 /* For a call that takes a rank too: all of these, and ranks of T or more. */
 void rank_refusal_tests(const struct call *call);
 
+/* For a call that takes a stretch and is lent nothing: the sizes, ranks, counts, and faults that meet. */
+void stretch_refusal_tests(const struct call *call);
+
 /* For a call that is lent an arrangement: those of two buffers, and what is wrong with the arrangement. */
 void arrangement_tests(const struct call *call);
 

@@ -101,12 +101,16 @@ static bool take_back(const struct lent *lent, struct row *row)
 static uint64_t apply(const struct function *function, const struct asked *asked, uint8_t *const lent[ROWS])
 {
     const size_t first = asked->lent[0].length, second = asked->lent[1].length;
+    const struct pair pair = asked->pair;
     if (function->of_sizes != NULL)
         return function->of_sizes(asked->n, asked->k);
     if (function->reading != NULL)
         return function->reading(asked->n, asked->k, lent[0], first, lent[1], second);
     if (function->changing != NULL)
         return function->changing(asked->n, asked->k, lent[0], first, lent[1], second);
+    if (function->counting != NULL)
+        return function->counting(asked->n, asked->k, asked->argument, asked->count, pair.v, pair.c, pair.w,
+                                  pair.e);
     return function->writing(asked->n, asked->k, asked->argument, lent[0], first, lent[1], second);
 }
 
@@ -137,6 +141,9 @@ static void hold(const struct call *call, const struct asked *asked, struct outc
     if (same || ++failures > FAILURES_PRINTED)
         return;
     printf("  asked     %s n=%zu k=%zu argument=%zu", call->name, asked->n, asked->k, asked->argument);
+    if (call->library.counting != NULL)
+        printf(" count=%" PRIu64 " pair=%zu:%zu,%zu:%zu", asked->count, asked->pair.v, asked->pair.c,
+               asked->pair.w, asked->pair.e);
     print_rows(asked->lent);
     printf("  came      answer 0x%" PRIx64, came.answer);
     print_rows(came.left);

@@ -19,9 +19,16 @@ struct row {
     uint8_t bytes[ROW_MOST];
 };
 
-/* What a call is asked: the sizes, the further number that some calls take, and what it is lent. */
+/* 01's v:c and w:e. */
+struct pair {
+    size_t v, c, w, e;
+};
+
+/* What a call is asked: the sizes, the further numbers that some calls take, and what it is lent. */
 struct asked {
     size_t n, k, argument;
+    uint64_t count; /* of a stretch, which begins at the rank that is the argument */
+    struct pair pair;
     struct row lent[ROWS];
 };
 
@@ -31,6 +38,8 @@ struct function {
     uint64_t (*reading)(size_t n, size_t k, const uint8_t *, size_t, const uint8_t *, size_t);
     uint64_t (*changing)(size_t n, size_t k, uint8_t *, size_t, uint8_t *, size_t);
     uint64_t (*writing)(size_t n, size_t k, size_t argument, uint8_t *, size_t, uint8_t *, size_t);
+    uint64_t (*counting)(size_t n, size_t k, uint64_t rank, uint64_t count, size_t v, size_t c, size_t w,
+                         size_t e);
 };
 
 /* A call under test, with its refusals in the order in which they are tried. */
@@ -86,6 +95,7 @@ void flip_tests(void);
 void rank_tests(void);
 void look_tests(void);
 void board_tests(void);
+void pair_tests(void);
 void handover_tests(void);
 
 #endif

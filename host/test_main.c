@@ -13,6 +13,7 @@ int main(void)
     rank_tests();
     look_tests();
     board_tests();
+    pair_tests();
     handover_tests();
     return end_of_tests();
 }

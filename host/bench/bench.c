@@ -5,27 +5,34 @@
 #define _POSIX_C_SOURCE 199309L /* clock_gettime */
 
 #include "calls.h"
+#include "limpet.h"
 #include "reference.h"
 #include "reference_board.h"
+#include "reference_pair.h"
+#include "stretches.h"
 
 #include <stdio.h>
 #include <stdlib.h>
 #include <string.h>
 #include <time.h>
 
-enum { INPUTS = 4096, ROUNDS = 31, ROOM = 24 };
+enum { INPUTS = 4096, LONG_INPUTS = 4, ROUNDS = 31, ROOM = 24 };
 
-/* The plain C has the checks of the library's call; `unchecked` is the same without, where there is one. */
+/*
+ * The plain C is the call's reference, or `plain` where that is set. It has the checks of the library's call;
+ * `unchecked` is the same without, where there is one.
+ */
 struct entry {
     const struct call *call;
-    struct function unchecked;
+    struct function plain, unchecked;
+    bool by_arrangement; /* asked with the longest stretches, and the time is that of one arrangement */
 };
 
 static const struct entry entries[] = {
     {.call = &round_call},
     {.call = &total_call},
     {.call = &check_call},
-    {.call = &flip_call},
+    {.call = &flip_call, .unchecked.writing = unchecked_flip},
     {.call = &look_call},
     {.call = &next_call, .unchecked.changing = unchecked_next},
     {.call = &rank_call},
@@ -35,28 +42,33 @@ static const struct entry entries[] = {
     {.call = &board_step_call, .unchecked.changing = unchecked_board_step},
     {.call = &board_read_call},
     {.call = &board_read_rank_call, .unchecked.reading = unchecked_board_read_rank},
+    {.call = &pair_call, .plain.counting = stepped_pair_count, .by_arrangement = true},
 };
 
 static const struct {
     size_t n, k;
 } sizes[] = {{20, 1}, {16, 2}, {11, 8}};
 
-/* What a call is asked INPUTS times, and has written. A call that leads on walks from the first. */
+/* What a call is asked once for each input, and has written. A call that leads on walks from the first. */
 struct batch {
-    size_t n, k, lengths[ROWS];
+    size_t n, k, lengths[ROWS], size;
     struct input {
-        uint64_t argument;
+        uint64_t argument, count;
+        struct pair pair;
         uint8_t rows[ROWS][ROOM];
     } inputs[INPUTS];
 };
 
-static void prepare(struct batch *batch, const struct call *call, size_t n, size_t k)
+static void prepare(struct batch *batch, const struct entry *entry, size_t n, size_t k)
 {
     batch->n = n;
     batch->k = k;
-    for (struct input *in = batch->inputs; in < batch->inputs + INPUTS; in++) {
-        const struct asked asked = call->fair(n, k);
+    batch->size = entry->by_arrangement ? LONG_INPUTS : INPUTS;
+    for (struct input *in = batch->inputs; in < batch->inputs + batch->size; in++) {
+        const struct asked asked = entry->by_arrangement ? longest_stretch(n, k) : entry->call->fair(n, k);
         in->argument = asked.argument;
+        in->count = asked.count;
+        in->pair = asked.pair;
         for (size_t i = 0; i < ROWS; i++) {
             batch->lengths[i] = asked.lent[i].length;
             memcpy(in->rows[i], asked.lent[i].bytes, ROOM);
@@ -68,7 +80,7 @@ static void prepare(struct batch *batch, const struct call *call, size_t n, size
 static uint64_t call_all(const struct function *function, struct batch *batch)
 {
     const size_t n = batch->n, k = batch->k, first = batch->lengths[0], second = batch->lengths[1];
-    struct input *const end = batch->inputs + INPUTS;
+    struct input *const end = batch->inputs + batch->size;
     uint64_t sum = 0;
     if (function->of_sizes != NULL)
         for (struct input *in = batch->inputs; in < end; in++)
@@ -79,6 +91,10 @@ static uint64_t call_all(const struct function *function, struct batch *batch)
     else if (function->changing != NULL)
         for (struct input *in = batch->inputs, *at = in; in < end; in++)
             sum += function->changing(n, k, at->rows[0], first, at->rows[1], second);
+    else if (function->counting != NULL)
+        for (struct input *in = batch->inputs; in < end; in++)
+            sum += function->counting(n, k, in->argument, in->count, in->pair.v, in->pair.c, in->pair.w,
+                                      in->pair.e);
     else
         for (struct input *in = batch->inputs; in < end; in++)
             sum += function->writing(n, k, in->argument, in->rows[0], first, in->rows[1], second);
@@ -95,7 +111,7 @@ static double now_in_ns(void)
 /* Every byte counts, by its place. */
 static uint64_t digest_of(const struct batch *batch, uint64_t digest)
 {
-    for (const struct input *in = batch->inputs; in < batch->inputs + INPUTS; in++)
+    for (const struct input *in = batch->inputs; in < batch->inputs + batch->size; in++)
         for (size_t i = 0; i < ROWS; i++)
             for (size_t place = 0; place < ROOM; place++)
                 digest = digest * 0x100000001b3 + in->rows[i][place];
@@ -112,7 +128,7 @@ static double timed(const struct function *function, const struct batch *prepare
     sink = call_all(function, &batch);
     const double took = now_in_ns() - began;
     *digest = digest_of(&batch, sink);
-    return took / INPUTS;
+    return took / (double)batch.size;
 }
 
 enum { LIBRARY, PLAIN, UNCHECKED, COLUMNS };
@@ -120,7 +136,7 @@ enum { LIBRARY, PLAIN, UNCHECKED, COLUMNS };
 static bool is_set(const struct function *function)
 {
     return function->of_sizes != NULL || function->reading != NULL || function->changing != NULL ||
-           function->writing != NULL;
+           function->writing != NULL || function->counting != NULL;
 }
 
 /* The best time of each column; ends the program where two columns differ in what they answer or write. */
@@ -142,15 +158,16 @@ static void time_columns(const struct function *const columns[COLUMNS], const st
 static void time_entry(const struct entry *entry, size_t n, size_t k)
 {
     static struct batch prepared;
-    const struct function *const columns[COLUMNS] = {&entry->call->library, &entry->call->reference,
-                                                     &entry->unchecked};
+    const struct function *const plain = is_set(&entry->plain) ? &entry->plain : &entry->call->reference;
+    const struct function *const columns[COLUMNS] = {&entry->call->library, plain, &entry->unchecked};
+    const double parts = entry->by_arrangement ? LIMPET_MOST_COUNTED : 1;
     double best[COLUMNS];
-    prepare(&prepared, entry->call, n, k);
+    prepare(&prepared, entry, n, k);
     time_columns(columns, &prepared, best);
-    printf("%-15s %3zu %3zu %9.1f %9.1f %19.2f", entry->call->name, n, k, best[LIBRARY], best[PLAIN],
-           best[LIBRARY] / best[PLAIN]);
+    printf("%-15s %3zu %3zu %9.1f %9.1f %19.2f", entry->call->name, n, k, best[LIBRARY] / parts,
+           best[PLAIN] / parts, best[LIBRARY] / best[PLAIN]);
     if (is_set(&entry->unchecked))
-        printf(" %11.1f %21.2f", best[UNCHECKED], best[LIBRARY] / best[UNCHECKED]);
+        printf(" %11.1f %21.2f", best[UNCHECKED] / parts, best[LIBRARY] / best[UNCHECKED]);
     printf("\n");
 }
 
@@ -158,7 +175,9 @@ int main(void)
 {
     printf("library  %s\n", LIBRARY_NAME);
     printf("plain C  the reference of the tests, by %s (%s)\n", PLAIN_COMPILER, __VERSION__);
-    printf("ns per call, the best of %d rounds over %d random inputs, or steps of a walk\n\n", ROUNDS, INPUTS);
+    printf("ns per call, the best of %d rounds over %d random inputs, or steps of a walk\n", ROUNDS, INPUTS);
+    printf("pair count: ns per arrangement of %d stretches of %d, and the plain C steps by counters\n\n",
+           LONG_INPUTS, LIMPET_MOST_COUNTED);
     printf("%-15s %3s %3s %9s %9s %19s %11s %21s\n", "call", "n", "k", "library", "plain C",
            "library / plain C", "unchecked C", "library / unchecked C");
     for (size_t i = 0; i < COUNT_OF(entries); i++)

@@ -38,14 +38,14 @@ module _ (n k q : ℕ) (k-low : 1 ≤ k) (n-low : 1 ≤ n) (q-low : q < weight n
       let back = rank-unrank n k q k-low q-low in
       let made = step n k (unrankModules n k q) (unrankSettings n k q) (unrank-valid n k q k-low q-low) k-low n-low in rw back at made
 
-  flip-high : flipOut n k q ≤ n
+  pub flip-high : flipOut n k q ≤ n
   flip-high = flip-out n k q k-low n-low .most
 
-  next-module : (i : ℕ) → i < n → flippedModules (flipOut n k q) (unrankModules n k q) i ≡ unrankModules n k (nextRank n k q) i
+  pub next-module : (i : ℕ) → i < n → flippedModules (flipOut n k q) (unrankModules n k q) i ≡ unrankModules n k (nextRank n k q) i
   next-module i l =
       sym (unrank-rank-module n k _ _ (flipped-valid k-low flip-high (unrank-valid n k q k-low q-low)) i l) ∙ ap (λ x. unrankModules n k x i) flipped-rank
 
-  next-setting : (i : ℕ) → i < n → flippedSettings k (flipOut n k q) (unrankSettings n k q) i ≡ unrankSettings n k (nextRank n k q) i
+  pub next-setting : (i : ℕ) → i < n → flippedSettings k (flipOut n k q) (unrankSettings n k q) i ≡ unrankSettings n k (nextRank n k q) i
   next-setting i l =
       sym (unrank-rank-setting n k _ _ (flipped-valid k-low flip-high (unrank-valid n k q k-low q-low)) i l) ∙ ap (λ x. unrankSettings n k x i) flipped-rank
 

@@ -1,6 +1,6 @@
 -- The laws of walks in hand. What a check, a rank, a look and a flip of the first n places say depends on these places alone, so it
 -- is the same of the part that is lent and of the whole. Assumes nothing.
-use mathlib.Core.Path.{_≡_, refl, sym, ap, ap₂, _∙_}
+use mathlib.Core.Path.{_≡_, sym, ap, _∙_}
 use mathlib.Core.Bool.{Bool, true, false}
 use mathlib.Core.List.{List, _++_}
 use Prim.Native.Nat.{ℕ, suc, _+_, _-_, _≤_, _<_}
@@ -9,7 +9,7 @@ use lib.Dec.{eqb}
 use lib.ListN.{length, take, drop}
 use lib.Seq.{getD-take, length-take-le}
 use Rattle.rows.specs.Row.{at, row, front}
-use Rattle.rows.specs.Search.{orElse, lowest}
+use Rattle.rows.specs.Search.{orElse}
 use Rattle.rows.proofs.Cases.{inside}
 use Rattle.rows.proofs.Rows.{row-ext}
 use Rattle.rows.proofs.Searches.{lowest-ext}

@@ -4,3 +4,4 @@ pub mod Checks
 pub mod Seats
 pub mod Counts
 pub mod Hands
+pub mod Moves

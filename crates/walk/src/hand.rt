@@ -68,24 +68,13 @@ fn look_places(n: usize, k: usize, modules: [u8; PLACES], settings: [u8; PLACES]
 }
 
 // The walk with its first n places flipped by j.
-fn flip_places(
-    n: usize,
-    k: usize,
-    j: usize,
-    modules: [u8; PLACES],
-    settings: [u8; PLACES],
-) -> Walk
+fn flip_places(n: usize, k: usize, j: usize, modules: [u8; PLACES], settings: [u8; PLACES]) -> Walk
     requires { ⌜ PlacesAsked n k modules settings × (j ≤ n) ⌝ }
     ensures { λ r. ⌜ r ≡ flippedWalk j (record { n = n; k = k; modules = modules; settings = settings }) ⌝ }
 {
     let mut turned_modules = modules;
     let mut turned_settings = settings;
-    flip::flip(
-        k,
-        j,
-        &mut turned_modules[..n],
-        &mut turned_settings[..n],
-    );
+    flip::flip(k, j, &mut turned_modules[..n], &mut turned_settings[..n]);
     Walk {
         n,
         k,

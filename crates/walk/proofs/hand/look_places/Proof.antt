@@ -23,7 +23,7 @@ look-requires : tie.Need-look-requires
 look-requires c κs = places-lent _ _ _ _ (c .before .before .pre) (length-take-le _ _ (search needs)) (length-take-le _ _ (search needs))
 
 returns : tie.Need-returns
-returns c = 
+returns c =
     let looked = c .look .ensures ∙ places-looked _ _ _ _ (c .before .before .before .pre .sizes .n-low) in
     (looked, rw looked (look-is _ _ _ _ (c .before .before .before .pre .sizes .n-low) .most))
 

@@ -1,7 +1,6 @@
 -- `walk::hand::no_walk` meets its contract by computing. Assumes nothing.
 use mathlib.Core.Path.{refl}
 use Rattle.walk.specs.Hand.{noWalk}
-use borrow.Author.Needs.{needs}
 use Rattle.walk.proofs.hand.no_walk.Statement.{statement}
 use Rattle.walk.proofs.hand.no_walk.Tie as tie
 

@@ -1,5 +1,4 @@
 -- `walk::hand::Walk::look` meets its contract: 0 where the walk is refused, and else what was asked for. Assumes nothing.
-use mathlib.Core.Path.{sym}
 use Rattle.sizes.proofs.Refusals.{was-fine, refused-number, done-number}
 use Rattle.walk.specs.Hand.{walkLook, tellsFlip}
 use Rattle.walk.proofs.Hands.{walk-asked}

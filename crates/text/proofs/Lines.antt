@@ -1,0 +1,220 @@
+-- Texts written one behind the other into a buffer are one text written into it, so a line is written by its parts. The lengths
+-- of the lines are sums of those of their numbers. Assumes nothing.
+use mathlib.Core.Path.{_≡_, refl, sym, ap, _∙_}
+use mathlib.Core.List.{List, [], _∷_, _++_, append-assoc}
+use Prim.Native.Nat.{ℕ, zero, suc, _+_, _-_, _*_, _/_, _%_, _≤_, _<_}
+use native.Mathlib.Nat.{le-refl}
+use native.Mathlib.Numerals.{add-one}
+use native.Mathlib.Omega.{arith}
+use lib.ListN.{length, take, drop, getD, set, length-append, length-set}
+use lib.Seq.{paste, paste-zero, paste-suc, length-paste, take-paste, drop-paste, take-length, drop-drop, drop-cons, getD-set-same, drop-set-lt, take-set-le}
+use Rattle.rows.specs.Row.{at}
+use Rattle.text.specs.Text.{Put, decimal, ended, numbersLine, walkWord, nextWord, refusedWord, headLine, slot, slots, slotLine, nextLine, refusedLine, lineMost}
+use Rattle.text.specs.Line.{most}
+use Rattle.text.proofs.Decimals.{decimal-one, decimal-more, long-one, long-more, long-some, long-most, long-byte}
+
+-- ---- texts in a buffer
+
+pub put-length : {xs text ys : List ℕ} {from r : ℕ} → from + length text ≤ length xs → Put xs from text r ys → length ys ≡ length xs
+put-length {xs} {text} {from = from} fits p = ap length (p .holds) ∙ length-paste xs from text (length text) fits (le-refl _)
+
+pasted : (xs : List ℕ) (from : ℕ) (text : List ℕ) → paste xs from text (length text) ≡ take from xs ++ text ++ drop (from + length text) xs
+pasted xs from text = rw take-length
+
+pub put-both : {xs a b ys zs : List ℕ} {from r q : ℕ} → from + (length a + length b) ≤ length xs → Put xs from a r ys → Put ys r b q zs → Put xs from (a ++ b) q zs
+put-both {xs} {a} {b} {ys} {zs} {from} {r} {q} fits p o =
+    let far : from + length a + length b ≡ from + length (a ++ b) = simp length-append (omega arith) in
+    let e : ys ≡ paste xs from a (length a) = p .holds in
+    let front : take r ys ≡ take from xs ++ a = rw (p .ends, e) (take-paste xs from a (length a) (omega arith) (le-refl _) ∙ rw take-length) in
+    let back : drop r ys ≡ drop (from + length a) xs = rw (p .ends, e) (drop-paste xs from a (length a) (omega arith) (le-refl _)) in
+    let behind : drop (r + length b) ys ≡ drop (from + length (a ++ b)) xs =
+    sym (drop-drop (length b) r ys) ∙ ap (drop (length b)) back ∙ drop-drop (length b) (from + length a) xs ∙ ap (λ k. drop k xs) far in
+    record {
+      ends = o .ends ∙ ap (λ x. x + length b) (p .ends) ∙ far;
+      holds = o .holds ∙ pasted ys r b ∙ (rw (front, behind) (simp append-assoc)) ∙ sym (pasted xs from (a ++ b));
+    }
+
+-- a text with one byte more is the text, written after that byte is stored
+byte-first : (xs : List ℕ) (from : ℕ) (text : List ℕ) (b : ℕ) → from + length text < length xs →
+    paste (set xs (from + length text) b) from text (length text) ≡ paste xs from (text ++ (b ∷ [])) (length (text ++ (b ∷ [])))
+byte-first xs from text b h =
+    let far : from + length (text ++ (b ∷ [])) ≡ suc (from + length text) = simp length-append (omega arith) in
+    let ys = set xs (from + length text) b in
+    let back : drop (from + length text) ys ≡ b ∷ drop (suc (from + length text)) xs =
+    drop-cons ys (from + length text) 0 (rw length-set h) ∙ rw (getD-set-same xs (from + length text) b 0 h, drop-set-lt (suc (from + length text)) xs (from + length text) b (le-refl _)) in
+    pasted ys from text ∙ (rw (back, take-set-le from xs (from + length text) b (omega arith), far) (simp append-assoc)) ∙ sym (pasted xs from (text ++ (b ∷ [])))
+
+-- a byte
+pub put-one : (xs : List ℕ) (from b : ℕ) → from + 1 ≤ length xs → Put xs from (b ∷ []) (from + 1) (set xs from b)
+put-one xs from b h =
+    let here : from ≡ from + 0 = omega arith in
+    record {
+      ends = refl;
+      holds = ap (λ k. set xs k b) here ∙ paste-zero (set xs (from + 0) b) from [] ∙ byte-first xs from [] b (omega arith);
+    }
+
+-- ---- a number, from its last digit on
+
+-- with the digits of `rest` written too, from its place i back, the buffer is what it is to become
+pub record Spelling (xs : List ℕ) (from number : ℕ) (ys : List ℕ) (rest i : ℕ) : Type 0 where
+  pub high : rest ≤ most
+  pub here : i + 1 ≡ from + length (decimal rest)
+  pub inside : i < length xs
+  pub long : length ys ≡ length xs
+  pub left : paste ys from (decimal rest) (length (decimal rest)) ≡ paste xs from (decimal number) (length (decimal number))
+
+pub spelling-first : {xs : List ℕ} {from number i : ℕ} → number ≤ most → i + 1 ≡ from + length (decimal number) → i < length xs → Spelling xs from number xs number i
+spelling-first h e l = record { high = h; here = e; inside = l; long = refl; left = refl }
+
+pub spelling-on : {xs : List ℕ} {from number : ℕ} {ys : List ℕ} {rest i d : ℕ} → Spelling xs from number ys rest i → 10 ≤ rest → d ≡ 48 + rest % 10 →
+    Spelling xs from number (set ys i d) (rest / 10) (i - 1)
+spelling-on {from = from} {ys = ys} {rest} {i} {d} so h e =
+    let some = long-some (rest / 10) (omega arith) in
+    let more = long-more rest h (so .high) in
+    let there : i ≡ from + length (decimal (rest / 10)) = omega arith in
+    record {
+      high = omega arith;
+      here = omega arith;
+      inside = omega arith;
+      long = length-set ys i d ∙ so .long;
+      left = (rw (there, e) (byte-first ys from (decimal (rest / 10)) (48 + rest % 10) (omega arith))) ∙
+          ap (λ t. paste ys from t (length t)) (sym (decimal-more rest h (so .high))) ∙ so .left;
+    }
+
+pub spelled : {xs : List ℕ} {from number : ℕ} {ys : List ℕ} {rest i d r : ℕ} → Spelling xs from number ys rest i → rest < 10 → d ≡ 48 + rest →
+    r ≡ from + length (decimal number) → Put xs from (decimal number) r (set ys i d)
+spelled {from = from} {ys = ys} {rest} {i} {d} so h e r-is =
+    let there : i ≡ from = omega (arith, so .here, long-one rest h) in
+    record {
+      ends = r-is;
+      holds = (rw (there, e) (put-one ys from (48 + rest) (omega (arith, so .long, so .inside)) .holds)) ∙
+          ap (λ t. paste ys from t (length t)) (sym (decimal-one rest h)) ∙ so .left;
+    }
+
+-- ---- a text, byte by byte
+
+-- its first i bytes are written
+module _ (xs : List ℕ) (from : ℕ) (text : List ℕ) (i : ℕ) {ys : List ℕ} (e : ys ≡ paste xs from text i) where
+  pub text-long : from + i ≤ length xs → i ≤ length text → length ys ≡ length xs
+  text-long h l = rw e (length-paste xs from text i h l)
+
+  pub text-turn : from + i < length xs → i < length text → set ys (from + i) (getD text i 0) ≡ paste xs from text (i + 1)
+  text-turn h l = rw (e, add-one) (paste-suc xs from text i 0 h l)
+
+-- ---- lengths
+
+pub ended-long : (x end : ℕ) → length (ended x end) ≡ length (decimal x) + 1
+unfolding ended
+ended-long x end = length-append (decimal x) (end ∷ [])
+
+pub ended-most : (x end : ℕ) → x ≤ most → length (ended x end) ≤ 21
+ended-most x end h = omega (arith, ended-long x end, long-most x h)
+
+pub slot-long : (v c : ℕ) → length (slot v c) ≡ length (decimal v) + length (decimal c) + 2
+unfolding slot
+slot-long v c = omega (arith, length-append (ended v 58) (decimal c), ended-long v 58)
+
+pub slot-short : (v c : ℕ) → v ≤ 255 → c ≤ 255 → length (slot v c) ≤ 8
+slot-short v c h g = omega (arith, slot-long v c, long-byte v h, long-byte c g)
+
+pub slots-short : (n : ℕ) (M S : ℕ → ℕ) → ((i : ℕ) → i < n → M i ≤ 255) → ((i : ℕ) → i < n → S i ≤ 255) → length (slots n M S) ≤ 8 * n
+unfolding slots
+slots-short zero M S m s = omega arith
+slots-short (suc n) M S m s =
+    omega (
+      arith,
+      length-append (slots n M S) (slot (M n) (S n)),
+      slot-short (M n) (S n) (m n (omega arith)) (s n (omega arith)),
+      slots-short n M S (λ i h. m i (omega arith)) (λ i h. s i (omega arith)),
+    )
+
+-- no line has more than 202 bytes
+pub numbers-short : (n k r t : ℕ) → n ≤ most → k ≤ most → r ≤ most → t ≤ most → length (numbersLine n k r t) ≤ 84
+unfolding numbersLine
+numbers-short n k r t hn hk hr ht =
+    simp length-append (omega (arith, ended-most n 32 hn, ended-most k 32 hk, ended-most r 32 hr, ended-most t 10 ht))
+
+pub head-short : (n k r t : ℕ) → n ≤ most → k ≤ most → r ≤ most → t ≤ most → length (headLine n k r t) ≤ lineMost
+unfolding headLine walkWord
+head-short n k r t hn hk hr ht = omega (arith, length-append walkWord (numbersLine n k r t), numbers-short n k r t hn hk hr ht)
+
+pub slot-line-short : (rank flip n : ℕ) (M S : ℕ → ℕ) → rank ≤ most → flip ≤ most → n ≤ 20 → ((i : ℕ) → i < n → M i ≤ 255) → ((i : ℕ) → i < n → S i ≤ 255) →
+    length (slotLine rank flip n M S) ≤ lineMost
+unfolding slotLine
+slot-line-short rank flip n M S hr hf hn m s =
+    simp length-append (omega (arith, ended-most rank 32 hr, long-most flip hf, slots-short n M S m s))
+
+pub word-short : (word : List ℕ) (x : ℕ) → length word ≤ 8 → x ≤ most → length (word ++ ended x 10) ≤ lineMost
+word-short word x few h = simp length-append (omega (arith, ended-most x 10 h))
+
+pub next-short : (rank : ℕ) → rank ≤ most → length (nextLine rank) ≤ lineMost
+unfolding nextLine nextWord
+next-short rank h = word-short nextWord rank (omega arith) h
+
+pub refused-short : (number : ℕ) → number ≤ most → length (refusedLine number) ≤ lineMost
+unfolding refusedLine refusedWord
+refused-short number h = word-short refusedWord number (omega arith) h
+
+-- ---- lines by their parts
+
+pub head-put : {xs x1 x2 x3 x4 ys : List ℕ} {from p1 p2 p3 p4 e n k r t : ℕ} → from + lineMost ≤ length xs → n ≤ most → k ≤ most → r ≤ most → t ≤ most →
+    Put xs from walkWord p1 x1 → Put x1 p1 (ended n 32) p2 x2 → Put x2 p2 (ended k 32) p3 x3 → Put x3 p3 (ended r 32) p4 x4 → Put x4 p4 (ended t 10) e ys →
+    Put xs from (headLine n k r t) e ys
+unfolding headLine numbersLine walkWord
+head-put {n = n} {k} {r} {t} room hn hk hr ht word first second third fourth =
+    let parts : walkWord ++ ended n 32 ++ ended k 32 ++ ended r 32 ++ ended t 10 ≡ headLine n k r t = simp append-assoc in
+    let a = ended-most n 32 hn in
+    let b = ended-most k 32 hk in
+    let c = ended-most r 32 hr in
+    let d = ended-most t 10 ht in
+    rw parts at
+    (put-both (simp length-append (omega arith))
+    (put-both (simp length-append (omega arith))
+    (put-both (simp length-append (omega arith)) (put-both (omega arith) word first) second) third) fourth)
+
+pub slot-put : {xs x1 x2 ys : List ℕ} {from p1 p2 e : ℕ} (v c : ℕ) → from + length (slot v c) ≤ length xs → Put xs from (32 ∷ []) p1 x1 → Put x1 p1 (ended v 58) p2 x2 →
+    Put x2 p2 (decimal c) e ys → Put xs from (slot v c) e ys
+unfolding slot
+slot-put v c room space colon setting =
+    let long = slot-long v c in
+    let one = ended-long v 58 in
+    put-both (simp length-append (omega arith)) (put-both (omega arith) space colon) setting
+
+-- ---- all slots, one by one
+
+-- the first i slots are written
+pub record Listed (xs : List ℕ) (from : ℕ) (ms ss ys : List ℕ) (end i : ℕ) : Type 0 where
+  pub high : i ≤ length ms
+  pub put : Put xs from (slots i (at ms) (at ss)) end ys
+
+pub listed-first : {xs ms ss : List ℕ} {from : ℕ} → Listed xs from ms ss xs from 0
+unfolding slots
+listed-first {xs} {from = from} = record { high = omega arith; put = record { ends = omega arith; holds = paste-zero xs from [] } }
+
+module _ {xs : List ℕ} {from : ℕ} {ms ss : List ℕ} (room : from + 8 * length ms ≤ length xs) (modules : (i : ℕ) → at ms i ≤ 255) (settings : (i : ℕ) → at ss i ≤ 255) where
+  -- they end where there is room for 8 bytes for each slot that is left
+  pub slots-room : {ys : List ℕ} {end i : ℕ} → Listed xs from ms ss ys end i → end + 8 * (length ms - i) ≤ length xs
+  slots-room {i = i} so =
+      omega (arith, so .put .ends, so .high, slots-short i (at ms) (at ss) (λ j l. modules j) (λ j l. settings j))
+
+  pub listed-long : {ys : List ℕ} {end i : ℕ} → Listed xs from ms ss ys end i → length ys ≡ length xs
+  listed-long so = put-length (omega (arith, so .put .ends, slots-room so)) (so .put)
+
+  pub slot-room : {ys : List ℕ} {end i : ℕ} → Listed xs from ms ss ys end i → i < length ms → end + 8 ≤ length ys
+  slot-room so l = omega (arith, listed-long so, slots-room so)
+
+  pub listed-on : {ys zs : List ℕ} {end e i : ℕ} → Listed xs from ms ss ys end i → i < length ms → Put ys end (slot (at ms i) (at ss i)) e zs → Listed xs from ms ss zs e (i + 1)
+  unfolding slots
+  listed-on {i = i} so l more = record {
+    high = omega arith;
+    put = rw (add-one, slots) (put-both (omega (arith, slot-room so l, listed-long so, so .put .ends, slot-short (at ms i) (at ss i) (modules i) (settings i))) (so .put) more);
+  }
+
+-- ---- the line of an arrangement
+
+pub slots-put : {xs x1 x2 x3 ys : List ℕ} {from p1 p2 p3 e : ℕ} (rank flip n : ℕ) (M S : ℕ → ℕ) → from + length (slotLine rank flip n M S) ≤ length xs →
+    Put xs from (ended rank 32) p1 x1 → Put x1 p1 (decimal flip) p2 x2 → Put x2 p2 (slots n M S) p3 x3 → Put x3 p3 (10 ∷ []) e ys → Put xs from (slotLine rank flip n M S) e ys
+unfolding slotLine
+slots-put rank flip n M S room first second third last =
+    let fits = simp length-append at room in
+    put-both (simp length-append (omega arith)) (put-both (simp length-append (omega arith)) (put-both (omega arith) first second) third) last

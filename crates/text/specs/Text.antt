@@ -1,0 +1,69 @@
+-- 01, the listing: its lines, as bytes of ASCII. A space is 32, a colon 58, and the newline that ends each line 10.
+use Prim.Native.Nat.{ℕ, zero, suc, _+_, _/_, _%_}
+use mathlib.Core.Path.{_≡_}
+use mathlib.Core.Bool.{cond}
+use mathlib.Core.List.{List, [], _∷_, _++_}
+use lib.Dec.{ltb}
+use lib.ListN.{length}
+use lib.Seq.{paste}
+
+-- the digits of x, of which there are at most m, the most significant first, with no leading zero
+unfoldable pub digits : ℕ → ℕ → List ℕ
+digits zero x = []
+digits (suc m) x = cond (ltb x 10) ((48 + x) ∷ []) (digits m (x / 10) ++ ((48 + x % 10) ∷ []))
+
+-- a number in decimal: no number below 2 ^ 64 has more than 20 digits
+unfoldable pub decimal : ℕ → List ℕ
+decimal x = digits 20 x
+
+-- a number, and the byte that ends it
+unfoldable pub ended : ℕ → ℕ → List ℕ
+ended x end = decimal x ++ (end ∷ [])
+
+-- four numbers with one space between, and a newline
+unfoldable pub numbersLine : ℕ → ℕ → ℕ → ℕ → List ℕ
+numbersLine n k r t = ended n 32 ++ ended k 32 ++ ended r 32 ++ ended t 10
+
+-- the words `walk `, `next ` and `refused `
+unfoldable pub walkWord : List ℕ
+walkWord = 119 ∷ 97 ∷ 108 ∷ 107 ∷ 32 ∷ []
+
+unfoldable pub nextWord : List ℕ
+nextWord = 110 ∷ 101 ∷ 120 ∷ 116 ∷ 32 ∷ []
+
+unfoldable pub refusedWord : List ℕ
+refusedWord = 114 ∷ 101 ∷ 102 ∷ 117 ∷ 115 ∷ 101 ∷ 100 ∷ 32 ∷ []
+
+-- the head line
+unfoldable pub headLine : ℕ → ℕ → ℕ → ℕ → List ℕ
+headLine n k r t = walkWord ++ numbersLine n k r t
+
+-- a slot: a space, its module v, a colon, its setting c
+unfoldable pub slot : ℕ → ℕ → List ℕ
+slot v c = 32 ∷ (ended v 58 ++ decimal c)
+
+-- the first n slots, of the modules M and the settings S
+unfoldable pub slots : ℕ → (ℕ → ℕ) → (ℕ → ℕ) → List ℕ
+slots zero M S = []
+slots (suc i) M S = slots i M S ++ slot (M i) (S i)
+
+-- the line of an arrangement: its rank, the flip out of it, and its n slots
+unfoldable pub slotLine : ℕ → ℕ → ℕ → (ℕ → ℕ) → (ℕ → ℕ) → List ℕ
+slotLine rank flip n M S = ended rank 32 ++ decimal flip ++ slots n M S ++ (10 ∷ [])
+
+-- the line of the rank that follows
+unfoldable pub nextLine : ℕ → List ℕ
+nextLine rank = nextWord ++ ended rank 10
+
+-- the line of a refused input
+unfoldable pub refusedLine : ℕ → List ℕ
+refusedLine number = refusedWord ++ ended number 10
+
+-- no line has more bytes: a rank and a flip of 20 digits each, 20 slots of 8 bytes each, a space and a newline
+abbrev pub lineMost : ℕ
+lineMost = 202
+
+-- ys is the buffer xs with a text written over it from place `from` on, and nothing else changed; the text ends before place r
+pub record Put (xs : List ℕ) (from : ℕ) (text : List ℕ) (r : ℕ) (ys : List ℕ) : Type 0 where
+  pub ends : r ≡ from + length text
+  pub holds : ys ≡ paste xs from text (length text)
