@@ -8,7 +8,7 @@
 #include <stdio.h>
 #include <string.h>
 
-enum { GUARD = 32, FAILURES_PRINTED = 10, BYTES_PRINTED = 24 };
+enum { GUARD = 32, FAILURES_PRINTED = 10, BYTES_PRINTED = 24, TEXT_PRINTED = 150 };
 
 static unsigned passed, failed;
 static unsigned long failures; /* of the running test */
@@ -188,6 +188,34 @@ void expect_line(const char *came, const char *known)
     if ((came == NULL || known == NULL || strcmp(came, known) != 0) && ++failures <= FAILURES_PRINTED)
         printf("  came      %s\n  expected  %s\n", came == NULL ? "nothing" : came,
                known == NULL ? "nothing" : known);
+}
+
+/* The start of the first line in which two texts differ. */
+static size_t first_difference(struct text a, struct text b)
+{
+    size_t start = 0;
+    for (size_t i = 0; i < a.length && i < b.length && a.bytes[i] == b.bytes[i]; i++)
+        if (a.bytes[i] == '\n')
+            start = i + 1;
+    return start;
+}
+
+static void print_text(const char *label, struct text text, size_t from)
+{
+    printf("  %-9s ", label);
+    for (size_t i = from; i < text.length && i < from + TEXT_PRINTED; i++)
+        printf(text.bytes[i] >= ' ' && text.bytes[i] <= '~' ? "%c" : "\\x%02x", (unsigned char)text.bytes[i]);
+    printf("%s\n", from < text.length ? "" : "nothing");
+}
+
+void expect_text(struct text asked, struct text came, struct text known)
+{
+    const bool same = came.length == known.length && memcmp(came.bytes, known.bytes, known.length) == 0;
+    if (same || ++failures > FAILURES_PRINTED)
+        return;
+    print_text("asked", asked, 0);
+    print_text("came", came, first_difference(came, known));
+    print_text("expected", known, first_difference(came, known));
 }
 
 void expect_refused(const struct call *call, const struct asked *asked, uint64_t number, uint64_t place)

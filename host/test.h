@@ -5,6 +5,8 @@
 #ifndef TEST_H
 #define TEST_H
 
+#include "program.h"
+
 #include <stdbool.h>
 #include <stddef.h>
 #include <stdint.h>
@@ -88,6 +90,9 @@ void expect_refused(const struct call *call, const struct asked *asked, uint64_t
 /* Holds a line of text to the one that is known; either is NULL where there is none. */
 void expect_line(const char *came, const char *known);
 
+/* Holds what a program printed to what is known, byte for byte; `asked` is its input. */
+void expect_text(struct text asked, struct text came, struct text known);
+
 /* One for each file of tests. */
 void sizes_tests(void);
 void check_tests(void);
@@ -97,5 +102,6 @@ void look_tests(void);
 void board_tests(void);
 void pair_tests(void);
 void handover_tests(void);
+void listing_tests(void);
 
 #endif

@@ -15,5 +15,6 @@ int main(void)
     board_tests();
     pair_tests();
     handover_tests();
+    listing_tests();
     return end_of_tests();
 }
