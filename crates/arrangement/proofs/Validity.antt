@@ -10,7 +10,7 @@ use borrow.Author.Tests.{not-false, eqb-true, eqb-false, ne-eqb, ltb-false, leb-
 use Rattle.rows.specs.Row.{at}
 use Rattle.rows.specs.Search.{lowest}
 use Rattle.rows.proofs.Cases.{by-lt, in-range, inside}
-use Rattle.rows.proofs.Searches.{none-holds, holds-nowhere, lowest-le}
+use Rattle.rows.proofs.Searches.{none-holds, holds-nowhere, lowest-ext, lowest-le}
 use Rattle.sizes.specs.declared.Verdict.the-variants.{Fine}
 use Rattle.sizes.specs.Refusal.{first, refusedAt}
 use Rattle.sizes.specs.Sizes.{Permitted, sizesVerdict, mostSlots}
@@ -64,6 +64,16 @@ valid-ext {n} {k} {M} {S} {M'} {S'} same-M same-S v = record {
   cell = λ i h. let was = v .cell i h in omega (arith, same-M i h, same-S i h);
   once = λ i j hi hj e. v .once i j hi hj (same-M i hi ∙ e ∙ sym (same-M j hj));
 }
+
+-- the verdict is that of every arrangement that agrees on the slots
+pub slots-ext : (n k : ℕ) (M S M' S' : ℕ → ℕ) → ((i : ℕ) → i < n → M i ≡ M' i) → ((i : ℕ) → i < n → S i ≡ S' i) → slotsVerdict n k M S ≡ slotsVerdict n k M' S'
+unfolding slotsVerdict badModule badSetting repeated
+slots-ext n k M S M' S' same-M same-S =
+    rw (
+      lowest-ext (badModule n M) (badModule n M') n (λ i l. rw (same-M i l)),
+      lowest-ext (repeated M) (repeated M') n (λ i l. rw (lowest-ext (λ h. eqb (M h) (M i)) (λ h. eqb (M' h) (M' i)) i (λ h g. rw (same-M h (omega arith), same-M i l)))),
+      lowest-ext (badSetting k S) (badSetting k S') n (λ i l. rw (same-S i l)),
+    )
 
 -- ---- two lent buffers
 

@@ -1,6 +1,6 @@
 -- Proofs by cases on the order of two numbers, and what `ifLt` and `outside` come to in each case. Two numbers can be
 -- compared, so a statement holds where it holds for each outcome. Assumes nothing.
-use mathlib.Core.Path.{_≡_, refl, subst}
+use mathlib.Core.Path.{_≡_, refl, sym, _∙_, subst}
 use mathlib.Core.Bool.{Bool, true, false, cond}
 use mathlib.Core.Logic.{_≢_}
 use Prim.Native.Nat.{ℕ, suc, _≤_, _<_}
@@ -37,6 +37,10 @@ by-last P {m} {i} h f g = by-lt i m f (λ l. subst P (le-antisymm l (le-of-suc-l
 pub by-test : {P : Type 0} (b : Bool) → (b ≡ true → P) → (b ≡ false → P) → P
 by-test true f g = f refl
 by-test false f g = g refl
+
+-- and not both
+pub opposite : {b : Bool} → b ≡ true → b ≡ false → ⊥
+opposite t f = let z : _≡_ {A = Bool} true false = sym t ∙ f in let y : _≡_ {A = ℕ} 0 1 = cc in omega arith
 
 pub if-lt : {a b : ℕ} (x y : ℕ) → a < b → ifLt a b x y ≡ x
 unfolding ifLt

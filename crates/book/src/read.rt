@@ -1,0 +1,64 @@
+// What an entry says, 01's entry 1 to E of a book that has been checked.
+use crate::format;
+use sizes::MOST_SLOTS;
+ghost use mathlib.Core.Path.{_≡_};
+ghost use Prim.Native.Nat.{_-_, _≤_};
+ghost use lib.ListN.{length};
+ghost use Rattle.rows.specs.Row.{row};
+ghost use Rattle.sizes.specs.Sizes.{mostSlots, mostSettings};
+ghost use Rattle.sizes.specs.declared.Verdict.the-variants.{Fine};
+ghost use Rattle.book.specs.Format.{formatOne};
+ghost use Rattle.book.specs.Read.{nOf, kOf, countOf, expected, rankOf, modulesOf, settingsOf, askedVerdict};
+
+// n.
+pub fn slots(book: &[u8], entry: usize) -> usize
+    requires { ⌜ askedVerdict formatOne (now book) entry ≡ Fine ⌝ }
+    ensures { λ r. ⌜ (r ≡ nOf (now (book .entry)) (entry - 1)) × (r ≤ mostSlots) ⌝ }
+{
+    book[format::entry_place(entry - 1)] as usize
+}
+
+// k.
+pub fn settings(book: &[u8], entry: usize) -> usize
+    requires { ⌜ askedVerdict formatOne (now book) entry ≡ Fine ⌝ }
+    ensures { λ r. ⌜ (r ≡ kOf (now (book .entry)) (entry - 1)) × (r ≤ mostSettings) ⌝ }
+{
+    book[format::entry_place(entry - 1) + 1] as usize
+}
+
+// The count of the stretch.
+pub fn count(book: &[u8], entry: usize) -> u64
+    requires { ⌜ askedVerdict formatOne (now book) entry ≡ Fine ⌝ }
+    ensures { λ r. ⌜ r ≡ countOf (now (book .entry)) (entry - 1) ⌝ }
+{
+    format::number_in(book, format::entry_place(entry - 1) + 6, 8)
+}
+
+// Where its body begins: the check held the offset to the expected one.
+fn body(book: &[u8], entry: usize) -> usize
+    requires { ⌜ askedVerdict formatOne (now book) entry ≡ Fine ⌝ }
+    ensures { λ r. ⌜ r ≡ expected formatOne (now (book .entry)) (entry - 1) ⌝ }
+{
+    format::number_in(book, format::entry_place(entry - 1) + 2, 4) as usize
+}
+
+// Writes the first arrangement of the stretch into two rows of n bytes.
+pub fn write(book: &[u8], entry: usize, modules: &mut [u8], settings: &mut [u8])
+    requires { ⌜ (askedVerdict formatOne (now book) entry ≡ Fine) × (length (now modules) ≡ nOf (now book) (entry - 1)) × (length (now settings) ≡ nOf (now book) (entry - 1)) ⌝ }
+    ensures { λ _. ⌜ now (modules .exit) ≡ row (modulesOf formatOne (now (book .entry)) (entry - 1)) (nOf (now (book .entry)) (entry - 1)) ⌝ }
+    ensures { λ _. ⌜ now (settings .exit) ≡ row (settingsOf formatOne (now (book .entry)) (entry - 1)) (nOf (now (book .entry)) (entry - 1)) ⌝ }
+{
+    format::take_body(book, body(book, entry), modules, settings);
+}
+
+// The rank of that arrangement.
+pub fn rank(book: &[u8], entry: usize) -> u64
+    requires { ⌜ askedVerdict formatOne (now book) entry ≡ Fine ⌝ }
+    ensures { λ r. ⌜ r ≡ rankOf formatOne (now (book .entry)) (entry - 1) ⌝ }
+{
+    let n = slots(book, entry);
+    let mut modules = [0u8; MOST_SLOTS];
+    let mut in_slots = [0u8; MOST_SLOTS];
+    write(book, entry, &mut modules[..n], &mut in_slots[..n]);
+    order::rank::rank(n, settings(book, entry), &modules[..n], &in_slots[..n])
+}
