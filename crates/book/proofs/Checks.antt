@@ -22,11 +22,11 @@ use Rattle.sizes.specs.Sizes.{weight, Permitted, sizesVerdict, mostSlots}
 use Rattle.sizes.proofs.Refusals.{is-fine, both-fine, no-fault, faultless, last-faultless}
 use Rattle.sizes.proofs.Weights.{permitted, not-refused}
 use Rattle.arrangement.specs.Arrangement.{Valid}
-use Rattle.arrangement.specs.Check.{slotsVerdict}
+use Rattle.arrangement.specs.Check.{lengthVerdict, slotsVerdict}
 use Rattle.arrangement.proofs.Checks.{right-length}
 use Rattle.arrangement.proofs.Validity.{valid, valid-fine}
 use Rattle.book.specs.Format.{Format, formatOne, numberIn, mostEntries, entryPlace, bodyPlace}
-use Rattle.book.specs.Read.{entriesOf, nOf, kOf, offsetOf, countOf, expected, modulesOf, settingsOf, inEntry, firstOf, cutVerdict, headVerdict, entryVerdict, endVerdict, contentsVerdict, bodyVerdict, bookVerdict, askedVerdict}
+use Rattle.book.specs.Read.{entriesOf, nOf, kOf, offsetOf, countOf, expected, modulesOf, settingsOf, inEntry, firstOf, cutVerdict, headVerdict, entryVerdict, endVerdict, contentsVerdict, bodyVerdict, bookVerdict, askedVerdict, lentEntryVerdict}
 use Rattle.book.specs.Asked.{ContentsAsked, BodiesAsked}
 use Rattle.book.proofs.Bytes.{Bytes}
 
@@ -225,6 +225,15 @@ entry-asked {format} xs {entry} e =
       body-ends = body-inside format xs (entry - 1) (a .book .ends) there;
       body = a .book .body (entry - 1) there;
     }
+
+-- and of the lent buffers
+pub lent-fine : (format : Format) (xs : List ℕ) (entry : ℕ) (ms ss : List ℕ) → lentEntryVerdict format xs entry ms ss ≡ Fine →
+    (askedVerdict format xs entry ≡ Fine) × (length ms ≡ nOf xs (entry - 1)) × (length ss ≡ nOf xs (entry - 1))
+unfolding lentEntryVerdict lengthVerdict
+lent-fine format xs entry ms ss e =
+    let both = both-fine (askedVerdict format xs entry) _ e in
+    let lengths = both-fine (lengthVerdict (nOf xs (entry - 1)) ms) _ (both .1) in
+    (both .0, eqb-true _ _ (not-false _ (no-fault 4 _ (lengths .0))), eqb-true _ _ (not-false _ (no-fault 4 _ (lengths .1))))
 
 -- what the bodies' check asks, behind a Fine verdict of the contents
 pub bodies-asked : (xs : List ℕ) → ContentsAsked xs → contentsVerdict formatOne xs ≡ Fine → BodiesAsked xs

@@ -1,5 +1,5 @@
 -- What each call from C returns and leaves, as total functions of what came in. Where a call has no value, its value is 0.
-use Prim.Native.Nat.{ℕ, _+_}
+use Prim.Native.Nat.{ℕ, _+_, _-_, _*_}
 use mathlib.Core.Path.{_≡_}
 use mathlib.Core.Bool.{cond}
 use mathlib.Core.List.{List}
@@ -17,6 +17,8 @@ use Rattle.board.specs.Step.{closes, stepFlip, lentStepVerdict, steppedCounters
 use Rattle.board.specs.Read.{Reads, verdictOf}
 use Rattle.board.specs.declared.read.Reading.{Reading}
 use Rattle.walk.specs.Pair.{pairVerdict, pairCount}
+use Rattle.book.specs.Format.{formatOne}
+use Rattle.book.specs.Read.{nOf, kOf, countOf, modulesOf, settingsOf, rankOf, askedVerdict, lentEntryVerdict}
 use Rattle.limpet.specs.Answer.{answerOf, packed, Outcome, outcome}
 
 -- limpet_round: the check of n and k
@@ -82,3 +84,20 @@ verdictShown reading = packed (answerOf (verdictOf reading) 0)
 -- limpet_pair_count: in how many arrangements of the stretch v:c stands in some slot and w:e in the next
 unfoldable pub pairReturns : ℕ → ℕ → ℕ → ℕ → ℕ → ℕ → ℕ → ℕ → ℕ
 pairReturns n k r t v c w e = packed (answerOf (pairVerdict n k r t v c w e) (pairCount n k r t v c w e))
+
+-- limpet_book_read: the arrangement of the entry asked for, with n in the lowest 8 bits of the value and k in the next 8
+unfoldable pub entryValue : List ℕ → ℕ → ℕ
+entryValue xs entry = nOf xs (entry - 1) + 256 * kOf xs (entry - 1)
+
+unfoldable pub bookLeaves : List ℕ → ℕ → List ℕ → List ℕ → Outcome
+bookLeaves xs entry ms ss =
+    outcome (lentEntryVerdict formatOne xs entry ms ss) (entryValue xs entry) ms ss
+    (row (modulesOf formatOne xs (entry - 1)) (nOf xs (entry - 1))) (row (settingsOf formatOne xs (entry - 1)) (nOf xs (entry - 1)))
+
+-- limpet_book_count: the count of the entry asked for
+unfoldable pub bookCountReturns : List ℕ → ℕ → ℕ
+bookCountReturns xs entry = unlessRefused (askedVerdict formatOne xs entry) (countOf xs (entry - 1))
+
+-- limpet_book_rank: the rank of its arrangement
+unfoldable pub bookRankReturns : List ℕ → ℕ → ℕ
+bookRankReturns xs entry = unlessRefused (askedVerdict formatOne xs entry) (rankOf formatOne xs (entry - 1))

@@ -3,6 +3,7 @@
 mod answer;
 pub mod of_arrangements;
 pub mod of_boards;
+pub mod of_books;
 pub mod of_looks;
 pub mod of_ranks;
 pub mod of_sizes;
