@@ -3,9 +3,11 @@
 
 #include "arrangements.h"
 #include "boards.h"
+#include "books.h"
 #include "limpet.h"
 #include "reference.h"
 #include "reference_board.h"
+#include "reference_book.h"
 #include "reference_pair.h"
 #include "stretches.h"
 
@@ -99,3 +101,23 @@ const struct call pair_call = {.name = "pair count",
                                .library.counting = limpet_pair_count,
                                .reference.counting = reference_pair_count,
                                .fair = random_stretch};
+
+const struct call book_read_call = {.name = "book read",
+                                    .refusals = {13, 14, 13, 1, 2, 3, 15, 16, 5, 6, 7, 18, 4},
+                                    .library.from_book = limpet_book_read,
+                                    .reference.from_book = reference_book_read,
+                                    .fair = random_book};
+
+const struct call book_count_call = {.name = "book count",
+                                     .refusals = {13, 14, 13, 1, 2, 3, 15, 16, 5, 6, 7, 18},
+                                     .library.of_book = limpet_book_count,
+                                     .reference.of_book = reference_book_count,
+                                     .plain = true,
+                                     .fair = random_book};
+
+const struct call book_rank_call = {.name = "book rank",
+                                    .refusals = {13, 14, 13, 1, 2, 3, 15, 16, 5, 6, 7, 18},
+                                    .library.of_book = limpet_book_rank,
+                                    .reference.of_book = reference_book_rank,
+                                    .plain = true,
+                                    .fair = random_book};

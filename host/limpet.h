@@ -12,6 +12,22 @@
  * full where it is k*j - 1. Then c_j is d_j, or 0 where d_j is full or j < s; and f_j is j, or, where a run
  * of full digits begins at j, the first place after the run.
  *
+ * A stretch is a rank and a count: as many arrangements, from that rank on. A book hands stretches over, of
+ * one size or several. It is lent as one buffer, contents first and then bodies:
+ *
+ *    byte 0       the format, 1
+ *    byte 1       the number of entries E, 1 to 64
+ *    then E entries of 14 bytes each:
+ *      1 byte     n
+ *      1 byte     k
+ *      4 bytes    where the entry's body begins, counted from byte 0; the least byte first
+ *      8 bytes    the count, 1 to T; the least byte first
+ *    then E bodies, in the order of the entries:
+ *      n bytes    the first arrangement of the stretch, slot 1 first: setting * 32 + module
+ *
+ * The first body begins at 2 + 14 * E, each other where the one before it ends, and the book ends with the
+ * last. Entries are counted from 1.
+ *
  * The caller's duty, which no check can see: a buffer is lent as a pointer and then its length, has the
  * length passed with it, and overlaps no other buffer lent to the same call. A pointer may be NULL only
  * with length 0.
@@ -33,10 +49,15 @@
  *   10  a board is false, as said with limpet_board_step and limpet_board_read
  *   11  a count t is above 65,536
  *   12  a pair has a module outside 1..n, the same module twice or a setting of k or more
+ *   13  a book ends before its contents do
+ *   14  a book's format isn't 1, or its number of entries is 0 or above 64
+ *   15  an entry's body isn't said to begin where it must, or its count is 0 or above T
+ *   16  a book's length isn't the end of its last body
+ *   18  the entry asked for is 0 or above E
  *
  * The place of 5, 6 and 7 is the lowest bad slot, counted from 1; for 6 the lowest slot whose module
- * already stands in a lower slot. Each is tried over all slots before the next. The place of every other
- * refusal is 0.
+ * already stands in a lower slot. Each is tried over all slots before the next. In a book the place of 1, 2,
+ * 3, 15, 5, 6 and 7 is the number of the entry. The place of every other refusal is 0.
  */
 #ifndef LIMPET_H
 #define LIMPET_H
@@ -47,6 +68,11 @@
 #define LIMPET_MOST_SLOTS 20
 #define LIMPET_MOST_SETTINGS 8
 #define LIMPET_MOST_COUNTED 65536
+#define LIMPET_MOST_ENTRIES 64
+
+/* The bytes of an entry, and of the longest book. */
+#define LIMPET_ENTRY_LENGTH 14
+#define LIMPET_MOST_BOOK (2 + LIMPET_MOST_ENTRIES * (LIMPET_ENTRY_LENGTH + LIMPET_MOST_SLOTS))
 
 #define LIMPET_NUMBER(answer) ((uint64_t)(answer) & 0xff)
 #define LIMPET_PLACE(answer) ((uint64_t)(answer) >> 8 & 0xff)
@@ -55,6 +81,10 @@
 /* The two parts of the value of limpet_board_step. */
 #define LIMPET_FLIP(answer) (LIMPET_VALUE(answer) & 0xff)
 #define LIMPET_CLOSED(answer) (LIMPET_VALUE(answer) >> 8 & 1)
+
+/* The two parts of the value of limpet_book_read. */
+#define LIMPET_N(answer) (LIMPET_VALUE(answer) & 0xff)
+#define LIMPET_K(answer) (LIMPET_VALUE(answer) >> 8 & 0xff)
 
 #ifdef __cplusplus
 extern "C" {
@@ -137,6 +167,33 @@ uint64_t limpet_board_read_rank(size_t n, size_t k, const uint8_t *counters, siz
  */
 uint64_t limpet_pair_count(size_t n, size_t k, uint64_t rank, uint64_t t, size_t v, size_t c, size_t w,
                            size_t e);
+
+/*
+ * Reads one entry, 1 to E, of a book: writes the first arrangement of its stretch, whatever the buffers hold.
+ * Value: LIMPET_N and LIMPET_K are the entry's n and k. The whole book is checked, whichever entry is asked
+ * for. A book has an order of refusals of its own:
+ *    13, for a book of under 2 bytes
+ *    14
+ *    13, for contents that are cut
+ *    1, 2, 3, then 15, entry by entry
+ *    16
+ *    5, 6, then 7, body by body
+ *    18
+ *    4, unless both buffers have exactly n bytes, n being that of the entry asked for
+ * As 4 comes last, and n is never 0, a reading into two buffers of length 0 is refused by 4 exactly where the
+ * book is good and has the entry. The entry's n is then the byte at 2 + 14 * (entry - 1).
+ */
+uint64_t limpet_book_read(const uint8_t *book, size_t book_length, size_t entry, uint8_t *modules,
+                          size_t modules_length, uint8_t *settings, size_t settings_length);
+
+/* The plain number of the entry's count, or 0 where limpet_book_read refuses by another number than 4. */
+uint64_t limpet_book_count(const uint8_t *book, size_t book_length, size_t entry);
+
+/*
+ * The plain number of the rank of the entry's first arrangement, or 0 where limpet_book_read refuses by
+ * another number than 4. Rank 0 is also that of home; a count is never 0, and so tells a refusal.
+ */
+uint64_t limpet_book_rank(const uint8_t *book, size_t book_length, size_t entry);
 
 #ifdef __cplusplus
 }

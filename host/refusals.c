@@ -196,13 +196,18 @@ static void rank_beyond_tests(const struct call *call)
     run_tests(call, tests, COUNT_OF(tests));
 }
 
-void refusal_tests(const struct call *call)
+void length_tests(const struct call *call)
 {
     static const struct test tests[] = {
         {"4 for either buffer shorter, longer or empty", .at_every_size = lengths},
     };
-    fault_tests(call);
     run_tests(call, tests, COUNT_OF(tests));
+}
+
+void refusal_tests(const struct call *call)
+{
+    fault_tests(call);
+    length_tests(call);
 }
 
 void rank_refusal_tests(const struct call *call)

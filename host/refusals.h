@@ -4,6 +4,9 @@
 
 #include "test.h"
 
+/* For a call that is lent two buffers: their lengths. */
+void length_tests(const struct call *call);
+
 /* For a call that is lent two buffers: the sizes, the lengths, and faults that meet. */
 void refusal_tests(const struct call *call);
 

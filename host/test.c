@@ -8,7 +8,7 @@
 #include <stdio.h>
 #include <string.h>
 
-enum { GUARD = 32, FAILURES_PRINTED = 10, BYTES_PRINTED = 24, TEXT_PRINTED = 150 };
+enum { GUARD = 32, FAILURES_PRINTED = 10, BYTES_PRINTED = 24, BOOK_PRINTED = 64, TEXT_PRINTED = 150 };
 
 static unsigned passed, failed;
 static unsigned long failures; /* of the running test */
@@ -71,34 +71,48 @@ struct lent {
     uint8_t room[GUARD + ROW_MOST + GUARD];
 };
 
+static uint8_t room_of_book[GUARD + BOOK_ROOM + GUARD];
+
 /* No guard byte is a module or a setting. */
 static uint8_t guard_byte(size_t i)
 {
     return (uint8_t)(0x80 | i * 37);
 }
 
-/* An empty row is lent as NULL. */
-static uint8_t *lend(struct lent *lent, const struct row *row)
+/* Where there are no bytes, NULL is lent. */
+static uint8_t *lend(uint8_t *room, const uint8_t *bytes, size_t length)
 {
     for (size_t i = 0; i < GUARD; i++) {
-        lent->room[i] = guard_byte(i);
-        lent->room[GUARD + row->length + i] = guard_byte(GUARD + i);
+        room[i] = guard_byte(i);
+        room[GUARD + length + i] = guard_byte(GUARD + i);
     }
-    memcpy(lent->room + GUARD, row->bytes, row->length);
-    return row->length == 0 ? NULL : lent->room + GUARD;
+    return length == 0 ? NULL : memcpy(room + GUARD, bytes, length);
+}
+
+static bool are_guards_whole(const uint8_t *room, size_t length)
+{
+    for (size_t i = 0; i < GUARD; i++)
+        if (room[i] != guard_byte(i) || room[GUARD + length + i] != guard_byte(GUARD + i))
+            return false;
+    return true;
 }
 
 /* Reads a lent buffer back into its row; false where a guard was written. */
 static bool take_back(const struct lent *lent, struct row *row)
 {
     memcpy(row->bytes, lent->room + GUARD, row->length);
-    for (size_t i = 0; i < GUARD; i++)
-        if (lent->room[i] != guard_byte(i) || lent->room[GUARD + row->length + i] != guard_byte(GUARD + i))
-            return false;
-    return true;
+    return are_guards_whole(lent->room, row->length);
 }
 
-static uint64_t apply(const struct function *function, const struct asked *asked, uint8_t *const lent[ROWS])
+/* False where the lent book was written, or a guard. */
+static bool is_book_whole(struct bytes book)
+{
+    return are_guards_whole(room_of_book, book.length) &&
+           (book.length == 0 || memcmp(room_of_book + GUARD, book.at, book.length) == 0);
+}
+
+static uint64_t apply(const struct function *function, const struct asked *asked, const uint8_t *book,
+                      uint8_t *const lent[ROWS])
 {
     const size_t first = asked->lent[0].length, second = asked->lent[1].length;
     const struct pair pair = asked->pair;
@@ -111,6 +125,11 @@ static uint64_t apply(const struct function *function, const struct asked *asked
     if (function->counting != NULL)
         return function->counting(asked->n, asked->k, asked->argument, asked->count, pair.v, pair.c, pair.w,
                                   pair.e);
+    if (function->of_book != NULL)
+        return function->of_book(book, asked->book.length, asked->argument);
+    if (function->from_book != NULL)
+        return function->from_book(book, asked->book.length, asked->argument, lent[0], first, lent[1],
+                                   second);
     return function->writing(asked->n, asked->k, asked->argument, lent[0], first, lent[1], second);
 }
 
@@ -121,13 +140,17 @@ struct outcome {
     const struct row *left;
 };
 
+static void print_bytes(const uint8_t *bytes, size_t length, size_t most)
+{
+    printf(" | %zu bytes", length);
+    for (size_t i = 0; i < length && i < most; i++)
+        printf(" %u", bytes[i]);
+}
+
 static void print_rows(const struct row *rows)
 {
-    for (const struct row *row = rows; row < rows + ROWS; row++) {
-        printf(" | %zu bytes", row->length);
-        for (size_t i = 0; i < row->length && i < BYTES_PRINTED; i++)
-            printf(" %u", row->bytes[i]);
-    }
+    for (const struct row *row = rows; row < rows + ROWS; row++)
+        print_bytes(row->bytes, row->length, BYTES_PRINTED);
     printf("\n");
 }
 
@@ -144,12 +167,14 @@ static void hold(const struct call *call, const struct asked *asked, struct outc
     if (call->library.counting != NULL)
         printf(" count=%" PRIu64 " pair=%zu:%zu,%zu:%zu", asked->count, asked->pair.v, asked->pair.c,
                asked->pair.w, asked->pair.e);
+    if (asked->book.length > 0)
+        print_bytes(asked->book.at, asked->book.length, BOOK_PRINTED);
     print_rows(asked->lent);
     printf("  came      answer 0x%" PRIx64, came.answer);
     print_rows(came.left);
     printf("  expected  answer 0x%" PRIx64, known.answer);
     print_rows(known.left);
-    printf("%s", came.guards_whole ? "" : "  a byte beside a lent buffer was written\n");
+    printf("%s", came.guards_whole ? "" : "  a byte beside a lent buffer or of a book was written\n");
 }
 
 uint64_t ask(const struct call *call, struct asked *asked)
@@ -158,12 +183,13 @@ uint64_t ask(const struct call *call, struct asked *asked)
     struct lent lent[ROWS];
     uint8_t *for_library[ROWS], *for_reference[ROWS];
     for (size_t i = 0; i < ROWS; i++) {
-        for_library[i] = lend(&lent[i], &asked->lent[i]);
+        for_library[i] = lend(lent[i].room, asked->lent[i].bytes, asked->lent[i].length);
         for_reference[i] = known.lent[i].bytes;
     }
-    const uint64_t answer = apply(&call->library, asked, for_library);
-    const uint64_t known_answer = apply(&call->reference, asked, for_reference);
-    bool guards_whole = true;
+    const uint8_t *book = lend(room_of_book, asked->book.at, asked->book.length);
+    const uint64_t answer = apply(&call->library, asked, book, for_library);
+    const uint64_t known_answer = apply(&call->reference, asked, asked->book.at, for_reference);
+    bool guards_whole = is_book_whole(asked->book);
     for (size_t i = 0; i < ROWS; i++)
         guards_whole = take_back(&lent[i], &came.lent[i]) && guards_whole;
     hold(call, asked, (struct outcome){answer, guards_whole, came.lent},

@@ -14,11 +14,18 @@
 #define COUNT_OF(array) (sizeof(array) / sizeof((array)[0]))
 
 /* The rows that a call is lent. ROW_MOST has room for a length whose low byte alone is right. */
-enum { MODULES, SETTINGS, ROWS, COUNTERS = MODULES, POINTERS, ROW_MOST = 300, REFUSALS_MOST = 10 };
+enum { MODULES, SETTINGS, ROWS, COUNTERS = MODULES, POINTERS, ROW_MOST = 300, REFUSALS_MOST = 14 };
 
 struct row {
     size_t length;
     uint8_t bytes[ROW_MOST];
+};
+
+/* Bytes that are lent to be read and never written: a book. BOOK_ROOM is the most that is lent. */
+enum { BOOK_ROOM = 1 << 17 };
+struct bytes {
+    size_t length;
+    const uint8_t *at;
 };
 
 /* 01's v:c and w:e. */
@@ -31,6 +38,7 @@ struct asked {
     size_t n, k, argument;
     uint64_t count; /* of a stretch, which begins at the rank that is the argument */
     struct pair pair;
+    struct bytes book; /* whose entry asked for is the argument */
     struct row lent[ROWS];
 };
 
@@ -42,6 +50,8 @@ struct function {
     uint64_t (*writing)(size_t n, size_t k, size_t argument, uint8_t *, size_t, uint8_t *, size_t);
     uint64_t (*counting)(size_t n, size_t k, uint64_t rank, uint64_t count, size_t v, size_t c, size_t w,
                          size_t e);
+    uint64_t (*of_book)(const uint8_t *, size_t, size_t entry);
+    uint64_t (*from_book)(const uint8_t *, size_t, size_t entry, uint8_t *, size_t, uint8_t *, size_t);
 };
 
 /* A call under test, with its refusals in the order in which they are tried. */
@@ -101,6 +111,7 @@ void rank_tests(void);
 void look_tests(void);
 void board_tests(void);
 void pair_tests(void);
+void book_tests(void);
 void handover_tests(void);
 void listing_tests(void);
 

@@ -14,6 +14,7 @@ int main(void)
     look_tests();
     board_tests();
     pair_tests();
+    book_tests();
     handover_tests();
     listing_tests();
     return end_of_tests();

@@ -9,6 +9,8 @@ _Static_assert(LIMPET_PLACE(0xfedcba987654f705) == 0xf7, "bits 8 to 15");
 _Static_assert(LIMPET_VALUE(0xfedcba987654f705) == 0xfedcba987654, "bits 16 and up");
 _Static_assert(LIMPET_FLIP(0xfedcba987654f705) == 0x54, "bits 16 to 23");
 _Static_assert(LIMPET_CLOSED(0x1000000) == 1 && LIMPET_CLOSED(0xfedcba98feffffff) == 0, "bit 24");
+_Static_assert(LIMPET_N(0xfedcba987654f705) == 0x54, "bits 16 to 23");
+_Static_assert(LIMPET_K(0xfedcba987654f705) == 0x76, "bits 24 to 31");
 
 /* The sizes 0..SMALL, and then those beyond. */
 enum { SMALL = 24, TRIED = SMALL + 1 + BEYOND };
