@@ -3,6 +3,7 @@
 
 #include "program.h"
 
+#include <errno.h>
 #include <fcntl.h>
 #include <stdio.h>
 #include <stdlib.h>
@@ -33,7 +34,7 @@ static pid_t forked(void)
 }
 
 /* No end is left open in a program that is started, but for the standard input or output made of it. */
-static void make_pipe(int ends[2])
+void make_pipe(int ends[2])
 {
     if (pipe(ends) != 0)
         die("pipe");
@@ -42,12 +43,13 @@ static void make_pipe(int ends[2])
 }
 
 /* A program that doesn't end is ended by the alarm, which outlives the exec. */
-pid_t start_program(char *const words[], int input, int output)
+pid_t start_program(char *const words[], int input, int output, int errors)
 {
     const pid_t program = forked();
     if (program == 0) {
         dup2(input, STDIN_FILENO);
         dup2(output, STDOUT_FILENO);
+        dup2(errors, STDERR_FILENO);
         alarm(SECONDS_MOST);
         execv(words[0], words);
         perror(words[0]);
@@ -55,15 +57,17 @@ pid_t start_program(char *const words[], int input, int output)
     }
     close(input);
     close(output);
+    if (errors != STDERR_FILENO)
+        close(errors);
     return program;
 }
 
-bool ended_well(pid_t program)
+int status_of(pid_t program)
 {
     int status;
     if (waitpid(program, &status, 0) != program)
         die("waitpid");
-    return WIFEXITED(status) && WEXITSTATUS(status) == 0;
+    return WIFEXITED(status) ? WEXITSTATUS(status) : BY_SIGNAL;
 }
 
 /* Where the program has stopped reading, the feeder ends by SIGPIPE. */
@@ -96,12 +100,14 @@ int feed(struct text input, size_t piece, pid_t *feeder)
     return ends[0];
 }
 
-/* A program that writes more than the room is stopped by SIGPIPE. */
-static size_t read_to_end(int from, char *room, size_t most)
+/* A program that writes more than the room is stopped by SIGPIPE. A terminal ends by EIO. */
+size_t read_to_end(int from, char *room, size_t most)
 {
     size_t length = 0;
     ssize_t count;
     while (length < most && (count = read(from, room + length, most - length)) != 0) {
+        if (count < 0 && errno == EIO)
+            break;
         if (count < 0)
             die("read");
         length += (size_t)count;
@@ -112,14 +118,16 @@ static size_t read_to_end(int from, char *room, size_t most)
 
 struct run run_program(char *const words[], struct text input, size_t piece)
 {
-    static char output[OUTPUT_MOST];
+    static char output[OUTPUT_MOST], errors[ERRORS_MOST];
     pid_t feeder;
     const int fed = feed(input, piece, &feeder);
-    int ends[2];
-    make_pipe(ends);
-    const pid_t program = start_program(words, fed, ends[1]);
-    const size_t length = read_to_end(ends[0], output, sizeof output);
-    const bool well = ended_well(program);
+    int output_ends[2], errors_ends[2];
+    make_pipe(output_ends);
+    make_pipe(errors_ends);
+    const pid_t program = start_program(words, fed, output_ends[1], errors_ends[1]);
+    const size_t output_length = read_to_end(output_ends[0], output, sizeof output);
+    const size_t errors_length = read_to_end(errors_ends[0], errors, sizeof errors);
+    const int status = status_of(program);
     waitpid(feeder, NULL, 0);
-    return (struct run){{length, output}, well};
+    return (struct run){{output_length, output}, {errors_length, errors}, status};
 }

@@ -2,7 +2,6 @@
 #ifndef PROGRAM_H
 #define PROGRAM_H
 
-#include <stdbool.h>
 #include <stddef.h>
 #include <sys/types.h>
 
@@ -14,11 +13,21 @@ struct text {
 
 struct text text_of(const char *string);
 
-/* Starts a program by its words, the last of them NULL, between two files, which are closed here. */
-pid_t start_program(char *const words[], int input, int output);
+/*
+ * Starts a program by its words, the last of them NULL, with these files as standard input, output and error.
+ * They are closed here, but for STDERR_FILENO.
+ */
+pid_t start_program(char *const words[], int input, int output, int errors);
 
-/* Waits for the program; whether it ended by itself, with exit status 0. */
-bool ended_well(pid_t program);
+/* Waits for the program and answers its exit status, or BY_SIGNAL where it didn't end by itself. */
+enum { BY_SIGNAL = -1 };
+int status_of(pid_t program);
+
+/* A pipe, to read from its first end what is written into its second. */
+void make_pipe(int ends[2]);
+
+/* Reads a pipe or a terminal to its end or up to `most` bytes, closes it, and answers how many. */
+size_t read_to_end(int from, char *room, size_t most);
 
 /*
  * Starts a process that writes the input into a pipe, `piece` bytes at a time and with a pause between, or
@@ -26,11 +35,14 @@ bool ended_well(pid_t program);
  */
 int feed(struct text input, size_t piece, pid_t *feeder);
 
-/* What a program wrote, up to OUTPUT_MOST bytes; the next run writes over it. */
-enum { OUTPUT_MOST = 1 << 24 };
+/*
+ * What a program wrote, up to OUTPUT_MOST and ERRORS_MOST bytes, and its exit status; the next run writes
+ * over it. What is written to standard error has to fit into a pipe.
+ */
+enum { OUTPUT_MOST = 1 << 24, ERRORS_MOST = 1 << 12 };
 struct run {
-    struct text output;
-    bool well;
+    struct text output, errors;
+    int status;
 };
 struct run run_program(char *const words[], struct text input, size_t piece);
 

@@ -113,6 +113,7 @@ void board_tests(void);
 void pair_tests(void);
 void book_tests(void);
 void handover_tests(void);
+void station_tests(void);
 void listing_tests(void);
 
 #endif

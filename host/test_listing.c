@@ -20,7 +20,8 @@ static void expect_in_pieces(struct text input, size_t piece, const char *known)
     static char expected[LISTING_MOST];
     const struct run run = run_program(words, input, piece);
     const struct text by_reference = {reference_listing(input.bytes, input.length, expected), expected};
-    expect_line(run.well ? "exit status 0" : "the program failed", "exit status 0");
+    fwrite(run.errors.bytes, 1, run.errors.length, stderr);
+    expect_line(run.status == 0 ? "exit status 0" : "the program failed", "exit status 0");
     expect_text(input, run.output, by_reference);
     if (known != NULL)
         expect_text(input, run.output, text_of(known));

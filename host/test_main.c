@@ -16,6 +16,7 @@ int main(void)
     pair_tests();
     book_tests();
     handover_tests();
+    station_tests();
     listing_tests();
     return end_of_tests();
 }

@@ -13,6 +13,7 @@
 #include <stdlib.h>
 #include <string.h>
 #include <time.h>
+#include <unistd.h>
 
 enum { ROUNDS = 11, LISTED = 65536, BEFORE_END = 30000, LINE_MOST = 100 };
 enum { PROGRAM, PLAIN, COLUMNS };
@@ -41,9 +42,9 @@ static double timed(char *const words[], struct text input)
 {
     pid_t feeder;
     const int fed = feed(input, 0, &feeder), nowhere = open("/dev/null", O_WRONLY);
-    ended_well(feeder);
+    status_of(feeder);
     const double began = now_in_ns();
-    if (!ended_well(start_program(words, fed, nowhere)))
+    if (status_of(start_program(words, fed, nowhere, STDERR_FILENO)) != 0)
         end_with("a program failed");
     return (now_in_ns() - began) / LISTED;
 }
