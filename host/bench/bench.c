@@ -4,6 +4,7 @@
  */
 #define _POSIX_C_SOURCE 199309L /* clock_gettime */
 
+#include "books.h"
 #include "calls.h"
 #include "limpet.h"
 #include "reference.h"
@@ -16,7 +17,7 @@
 #include <string.h>
 #include <time.h>
 
-enum { INPUTS = 4096, LONG_INPUTS = 4, ROUNDS = 31, ROOM = 24 };
+enum { INPUTS = 4096, LONG_INPUTS = 4, BOOK_INPUTS = 64, ROUNDS = 31, ROOM = 24 };
 
 /*
  * The plain C is the call's reference, or `plain` where that is set. It has the checks of the library's call;
@@ -25,7 +26,10 @@ enum { INPUTS = 4096, LONG_INPUTS = 4, ROUNDS = 31, ROOM = 24 };
 struct entry {
     const struct call *call;
     struct function plain, unchecked;
-    bool by_arrangement; /* asked with the longest stretches, and the time is that of one arrangement */
+    struct asked (*asked_with)(size_t n, size_t k); /* in place of the call's `fair` */
+    size_t inputs;                                  /* in place of INPUTS */
+    size_t parts;     /* where it is set, the time is that of one of as many parts of a call */
+    const char *name; /* in place of the call's */
 };
 
 static const struct entry entries[] = {
@@ -42,7 +46,17 @@ static const struct entry entries[] = {
     {.call = &board_step_call, .unchecked.changing = unchecked_board_step},
     {.call = &board_read_call},
     {.call = &board_read_rank_call, .unchecked.reading = unchecked_board_read_rank},
-    {.call = &pair_call, .plain.counting = stepped_pair_count, .by_arrangement = true},
+    {.call = &pair_call,
+     .plain.counting = stepped_pair_count,
+     .asked_with = longest_stretch,
+     .inputs = LONG_INPUTS,
+     .parts = LIMPET_MOST_COUNTED},
+    {.call = &book_read_call, .asked_with = book_of_one},
+    {.call = &book_count_call, .asked_with = book_of_one},
+    {.call = &book_rank_call, .asked_with = book_of_one},
+    {.call = &book_read_call, .asked_with = book_of_most, .inputs = BOOK_INPUTS, .name = "book read of 64"},
+    {.call = &book_count_call, .asked_with = book_of_most, .inputs = BOOK_INPUTS, .name = "book count of 64"},
+    {.call = &book_rank_call, .asked_with = book_of_most, .inputs = BOOK_INPUTS, .name = "book rank of 64"},
 };
 
 static const struct {
@@ -55,20 +69,30 @@ struct batch {
     struct input {
         uint64_t argument, count;
         struct pair pair;
+        struct bytes book;
         uint8_t rows[ROWS][ROOM];
     } inputs[INPUTS];
 };
+
+/* The books of a batch, one behind the other: as many of one entry, or fewer of 64. */
+static uint8_t shelf[INPUTS * (2 + LIMPET_ENTRY_LENGTH + LIMPET_MOST_SLOTS)];
+_Static_assert(sizeof shelf >= (size_t)BOOK_INPUTS * LIMPET_MOST_BOOK, "the longest books have room");
 
 static void prepare(struct batch *batch, const struct entry *entry, size_t n, size_t k)
 {
     batch->n = n;
     batch->k = k;
-    batch->size = entry->by_arrangement ? LONG_INPUTS : INPUTS;
+    batch->size = entry->inputs != 0 ? entry->inputs : INPUTS;
+    uint8_t *book = shelf;
     for (struct input *in = batch->inputs; in < batch->inputs + batch->size; in++) {
-        const struct asked asked = entry->by_arrangement ? longest_stretch(n, k) : entry->call->fair(n, k);
+        const struct asked asked = (entry->asked_with != NULL ? entry->asked_with : entry->call->fair)(n, k);
         in->argument = asked.argument;
         in->count = asked.count;
         in->pair = asked.pair;
+        in->book = (struct bytes){asked.book.length, book};
+        if (asked.book.length > 0)
+            memcpy(book, asked.book.at, asked.book.length);
+        book += asked.book.length;
         for (size_t i = 0; i < ROWS; i++) {
             batch->lengths[i] = asked.lent[i].length;
             memcpy(in->rows[i], asked.lent[i].bytes, ROOM);
@@ -95,6 +119,13 @@ static uint64_t call_all(const struct function *function, struct batch *batch)
         for (struct input *in = batch->inputs; in < end; in++)
             sum += function->counting(n, k, in->argument, in->count, in->pair.v, in->pair.c, in->pair.w,
                                       in->pair.e);
+    else if (function->of_book != NULL)
+        for (struct input *in = batch->inputs; in < end; in++)
+            sum += function->of_book(in->book.at, in->book.length, in->argument);
+    else if (function->from_book != NULL)
+        for (struct input *in = batch->inputs; in < end; in++)
+            sum += function->from_book(in->book.at, in->book.length, in->argument, in->rows[0], first,
+                                       in->rows[1], second);
     else
         for (struct input *in = batch->inputs; in < end; in++)
             sum += function->writing(n, k, in->argument, in->rows[0], first, in->rows[1], second);
@@ -136,7 +167,8 @@ enum { LIBRARY, PLAIN, UNCHECKED, COLUMNS };
 static bool is_set(const struct function *function)
 {
     return function->of_sizes != NULL || function->reading != NULL || function->changing != NULL ||
-           function->writing != NULL || function->counting != NULL;
+           function->writing != NULL || function->counting != NULL || function->of_book != NULL ||
+           function->from_book != NULL;
 }
 
 /* The best time of each column; ends the program where two columns differ in what they answer or write. */
@@ -160,12 +192,12 @@ static void time_entry(const struct entry *entry, size_t n, size_t k)
     static struct batch prepared;
     const struct function *const plain = is_set(&entry->plain) ? &entry->plain : &entry->call->reference;
     const struct function *const columns[COLUMNS] = {&entry->call->library, plain, &entry->unchecked};
-    const double parts = entry->by_arrangement ? LIMPET_MOST_COUNTED : 1;
+    const double parts = entry->parts != 0 ? (double)entry->parts : 1;
     double best[COLUMNS];
     prepare(&prepared, entry, n, k);
     time_columns(columns, &prepared, best);
-    printf("%-15s %3zu %3zu %9.1f %9.1f %19.2f", entry->call->name, n, k, best[LIBRARY] / parts,
-           best[PLAIN] / parts, best[LIBRARY] / best[PLAIN]);
+    printf("%-16s %3zu %3zu %9.1f %9.1f %19.2f", entry->name != NULL ? entry->name : entry->call->name, n, k,
+           best[LIBRARY] / parts, best[PLAIN] / parts, best[LIBRARY] / best[PLAIN]);
     if (is_set(&entry->unchecked))
         printf(" %11.1f %21.2f", best[UNCHECKED] / parts, best[LIBRARY] / best[UNCHECKED]);
     printf("\n");
@@ -176,9 +208,10 @@ int main(void)
     printf("library  %s\n", LIBRARY_NAME);
     printf("plain C  the reference of the tests, by %s (%s)\n", PLAIN_COMPILER, __VERSION__);
     printf("ns per call, the best of %d rounds over %d random inputs, or steps of a walk\n", ROUNDS, INPUTS);
-    printf("pair count: ns per arrangement of %d stretches of %d, and the plain C steps by counters\n\n",
+    printf("pair count: ns per arrangement of %d stretches of %d, and the plain C steps by counters\n",
            LONG_INPUTS, LIMPET_MOST_COUNTED);
-    printf("%-15s %3s %3s %9s %9s %19s %11s %21s\n", "call", "n", "k", "library", "plain C",
+    printf("book: one entry, or 64 entries of the same size in %d books\n\n", BOOK_INPUTS);
+    printf("%-16s %3s %3s %9s %9s %19s %11s %21s\n", "call", "n", "k", "library", "plain C",
            "library / plain C", "unchecked C", "library / unchecked C");
     for (size_t i = 0; i < COUNT_OF(entries); i++)
         for (size_t j = 0; j < COUNT_OF(sizes); j++)

@@ -75,7 +75,7 @@ static void time_size(size_t n, size_t k)
             const double took = timed(programs[i], text_of(line));
             best[i] = round == 0 || took < best[i] ? took : best[i];
         }
-    printf("%-15s %3zu %3zu %9.1f %9.1f %19.2f\n", "listing", n, k, best[PROGRAM], best[PLAIN],
+    printf("%-16s %3zu %3zu %9.1f %9.1f %19.2f\n", "listing", n, k, best[PROGRAM], best[PLAIN],
            best[PROGRAM] / best[PLAIN]);
 }
 
@@ -83,7 +83,7 @@ int main(void)
 {
     printf("\nlisting: ns per arrangement of %d, the best of %d runs of the whole program\n", LISTED, ROUNDS);
     printf("plain C  steps by counters, counts the rank up and prints with printf\n\n");
-    printf("%-15s %3s %3s %9s %9s %19s\n", "program", "n", "k", "listing", "plain C", "listing / plain C");
+    printf("%-16s %3s %3s %9s %9s %19s\n", "program", "n", "k", "listing", "plain C", "listing / plain C");
     for (size_t i = 0; i < sizeof sizes / sizeof sizes[0]; i++)
         time_size(sizes[i].n, sizes[i].k);
     return 0;
