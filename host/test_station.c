@@ -458,6 +458,15 @@ static void no_room_to_write(const struct call *call)
         FAILED, text_of(""), "station: standard output: No space left on device\n");
 }
 
+static const char usage[] = "usage: station BOOK ENTRY [WHERE] [--steps COUNT]\n"
+                            "  BOOK    a file with a book of stretches\n"
+                            "  ENTRY   the number of the stretch in it, from 1\n"
+                            "  WHERE   where to go on, as a stopped station printed it: one of\n"
+                            "            --number RANK\n"
+                            "            --arrangement MODULE:SETTING,..\n"
+                            "            --counters COUNTER,../POINTER,..\n"
+                            "  COUNT   after how many steps to stop\n";
+
 /* Words that can't be read, and orders that contradict each other. */
 static void wrong_arguments(const struct call *call)
 {
@@ -493,14 +502,6 @@ static void wrong_arguments(const struct call *call)
         {BOOK_FILE, "1", "--number", "40", "--counters", "0,0,5/1,2,3,4"},
         {BOOK_FILE, "1", "--steps", "1", "--steps", "1"},
     };
-    static const char usage[] = "usage: station BOOK ENTRY [WHERE] [--steps COUNT]\n"
-                                "  BOOK    a file with a book of stretches\n"
-                                "  ENTRY   the number of the stretch in it, from 1\n"
-                                "  WHERE   where to go on, as a stopped station printed it: one of\n"
-                                "            --number RANK\n"
-                                "            --arrangement MODULE:SETTING,..\n"
-                                "            --counters COUNTER,../POINTER,..\n"
-                                "  COUNT   after how many steps to stop\n";
     (void)call;
     save_stretch((struct stretch){3, 2, 40, 16});
     for (size_t i = 0; i < COUNT_OF(cases); i++)
