@@ -72,7 +72,7 @@ module _ {xs : List ℕ} {place width number i : ℕ} (inside : place + width �
         is =
             let tail : numberIn (slice (suc (place + (i - 1))) (place + width) xs) ≡ number = rw next (sym (so .is)) in
             let whole : numberIn (slice (place + (i - 1)) (place + width) xs) ≡ byte + 256 * number =
-                rw (slice-cons (place + (i - 1)) (place + width) xs 0 (omega (arith, so .high)) inside, tail, is-at) in
+            rw (slice-cons (place + (i - 1)) (place + width) xs 0 (omega (arith, so .high)) inside, tail, is-at) in
             omega arith;
         small = rw left (omega (arith, so .small));
       }

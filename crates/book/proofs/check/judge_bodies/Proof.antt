@@ -80,8 +80,7 @@ judge-body-requires c κs =
     let there = c .before .before in
     let here = there .before in
     let pre = here .before .before .before .before .pre in
-    let sizes = pre .0 .sizes _ (one here) in
-    (
+    let sizes = pre .0 .sizes _ (one here) in (
       omega (arith, here .before .loop .inv .1, n-is there, body-ends here),
       omega (arith, n-is there, sizes .n-high),
       omega (arith, k-is there, sizes .k-low),
@@ -126,8 +125,7 @@ unfolding formatOne
 loop-again c =
     let judged-at = c .before .before in
     let there = judged-at .before .before .before in
-    let loop = there .before .before in
-    (
+    let loop = there .before .before in (
       omega (arith, there .before .loop-test .taken),
       ap₂ _+_ (loop .loop .inv .1) (n-is there) ∙ expected-next formatOne _ _,
       entry-passed _ (loop .loop .inv .2) (was-fine (judged judged-at) (c .before .refuses .ensures) (c .if1 .left)),

@@ -89,8 +89,7 @@ unfolding formatOne
 loop-again c =
     let passed = c .before .before in
     let judged = passed .before .before in
-    let loop = judged .before .before in
-    (
+    let loop = judged .before .before in (
       omega (arith, judged .before .loop-test .taken),
       ap₂ _+_ (loop .loop .inv .1) (n-read _ _ (c .before .entry-place2 .ensures)) ∙ expected-next formatOne _ _,
       entry-passed _ (loop .loop .inv .2) (was-fine (judged .judge-entry .ensures) (passed .before .refuses .ensures) (passed .if1 .left)),

@@ -51,8 +51,7 @@ loop-again : tie.Need-loop-again Inv-loop μ-loop
 unfolding formatOne
 loop-again c =
     let loop = c .before .before in
-    let l = long loop in
-    (
+    let l = long loop in (
       omega (arith, c .before .loop-test .taken),
       stored _ _ _ (loop .loop .inv .1) (omega (arith, c .before .loop-test .taken)) refl,
       stored _ _ _ (loop .loop .inv .2) (omega (arith, c .before .loop-test .taken, loop .before .pre .1)) refl,
@@ -67,8 +66,7 @@ same-length-2 c = long-too (c .before)
 returns : tie.Need-returns Inv-loop μ-loop
 returns c =
     let loop = c .before in
-    let all : loop .loop .i ≡ length (loop .before .args .modules .now) = omega (arith, long loop, c .loop-test .left, loop .loop .inv .0) in
-    (
+    let all : loop .loop .i ≡ length (loop .before .args .modules .now) = omega (arith, long loop, c .loop-test .left, loop .loop .inv .0) in (
       rewritten _ _ _ _ (loop .loop .inv .1) all refl,
       rewritten _ _ _ _ (loop .loop .inv .2) all (loop .before .pre .1),
     )

@@ -37,8 +37,7 @@ returns c =
     let written = c .before .before .before .before in
     let told = written .before .before .before in
     let start = told .before .before .before .before in
-    let xs = start .args .book .now in
-    (
+    let xs = start .args .book .now in (
       written .take-body .ensures .0 ∙ ap₂ (λ (p m : ℕ). row (formatOne .moduleIn (λ q. at xs (p + q))) m) (told .body .ensures) (start .pre .1),
       written .take-body .ensures .1 ∙ ap₂ (λ (p m : ℕ). row (formatOne .settingIn (λ q. at xs (p + q))) m) (told .body .ensures) (start .pre .1),
     )

@@ -32,7 +32,7 @@ same-length-2 c = search needs
 
 returns : tie.Need-returns
 unfolding bookLeaves
-returns c = 
+returns c =
     let judged = c .before .before in
     refused-leaves _ 0 _ _ _ _ (judged .before .judge-lent .ensures) (judged .refuses .ensures) (c .before .if1 .taken) (c .pack .ensures) refl refl
 
@@ -76,7 +76,7 @@ value-is c = ap₂ (λ n k. n + 256 * k) (c .before .slots .ensures .0) (c .sett
 
 returns-2 : tie.Need-returns-2
 unfolding bookLeaves
-returns-2 c = 
+returns-2 c =
     let written = c .before .before .before .before .before in
     let told = written .before .before .before in
     let passed = told .before .before in
