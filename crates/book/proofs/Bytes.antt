@@ -6,15 +6,12 @@ use mathlib.Core.List.{List, [], _∷_}
 use native.Mathlib.Nat.{le-refl, lt-of-lt-of-le}
 use native.Mathlib.Omega.{arith}
 use lib.Arith.{digits-div, digits-mod}
-use lib.ListN.{length}
+use lib.ListN.{length, take, List·getD-eq-default}
 use lib.Pow.{pow-add, pow-mono, pow-pos}
-use lib.Seq.{slice, slice-cons, slice-empty, length-slice}
+use lib.Seq.{slice, slice-cons, slice-empty, length-slice, length-take-le, getD-drop, getD-take}
 use Rattle.rows.specs.Row.{at}
-use Rattle.book.specs.Format.{bytesOf, numberIn}
-
--- every byte is below 256
-unfoldable pub Bytes : List ℕ → Type 0
-Bytes xs = (i : ℕ) → at xs i < 256
+use Rattle.rows.proofs.Cases.{by-lt}
+use Rattle.book.specs.Format.{Bytes, bytesOf, numberIn}
 
 more-bytes : (w : ℕ) → 2 ^ (8 * suc w) ≡ 256 * 2 ^ (8 * w)
 more-bytes w = let e : 8 * suc w ≡ 8 + 8 * w = omega arith in ap (λ x. 2 ^ x) e ∙ pow-add 2 8 (8 * w)
@@ -40,6 +37,20 @@ bytes-back (x ∷ xs) b =
     let low : (x + 256 * numberIn xs) % 256 ≡ x = ap (λ y. y % 256) order ∙ digits-mod (numberIn xs) byte in
     let high : (x + 256 * numberIn xs) / 256 ≡ numberIn xs = ap (λ y. y / 256) order ∙ digits-div (numberIn xs) byte in
     ap₂ (λ (y : ℕ) (ys : List ℕ). y ∷ ys) low (ap (bytesOf (length xs)) high ∙ bytes-back xs (λ i. b (suc i)))
+
+-- a slice of bytes
+slice-bytes : (xs : List ℕ) (f t : ℕ) → t ≤ length xs → Bytes xs → Bytes (slice f t xs)
+unfolding Bytes
+slice-bytes xs f t inside b i =
+    rw (getD-drop f (take t xs) i 0)
+    (by-lt (f + i) t (λ l. rw (getD-take t xs (f + i) 0 l) (b (f + i)))
+    (λ g. rw (List·getD-eq-default (take t xs) 0 {n = f + i} (omega (arith, length-take-le t xs inside))) (omega arith)))
+
+-- it holds the bytes of its number
+pub slice-back : (xs : List ℕ) (f w : ℕ) → Bytes xs → f + w ≤ length xs → bytesOf w (numberIn (slice f (f + w) xs)) ≡ slice f (f + w) xs
+slice-back xs f w b inside =
+    let long : w ≡ length (slice f (f + w) xs) = omega (arith, length-slice f (f + w) xs inside) in
+    ap (λ x. bytesOf x (numberIn (slice f (f + w) xs))) long ∙ bytes-back (slice f (f + w) xs) (slice-bytes xs f (f + w) inside b)
 
 -- ---- read from the last byte to the first
 

@@ -25,10 +25,9 @@ use Rattle.arrangement.specs.Arrangement.{Valid}
 use Rattle.arrangement.specs.Check.{lengthVerdict, slotsVerdict}
 use Rattle.arrangement.proofs.Checks.{right-length}
 use Rattle.arrangement.proofs.Validity.{valid, valid-fine}
-use Rattle.book.specs.Format.{Format, formatOne, numberIn, mostEntries, entryPlace, bodyPlace}
+use Rattle.book.specs.Format.{Bytes, Format, formatOne, numberIn, mostEntries, entryPlace, bodyPlace}
 use Rattle.book.specs.Read.{entriesOf, nOf, kOf, offsetOf, countOf, expected, modulesOf, settingsOf, inEntry, firstOf, cutVerdict, headVerdict, entryVerdict, endVerdict, contentsVerdict, bodyVerdict, bookVerdict, askedVerdict, lentEntryVerdict}
 use Rattle.book.specs.Asked.{ContentsAsked, BodiesAsked}
-use Rattle.book.proofs.Bytes.{Bytes}
 
 -- ---- verdicts about entries, in order
 
@@ -203,6 +202,15 @@ asked format xs entry e =
     let both = both-fine (bookVerdict format xs) _ e in
     let range = inside 1 (entriesOf xs) entry (no-fault 18 _ (both .1)) in
     record { book = checked format xs (both .0); low = range .0; high = range .1 }
+
+-- the whole book is checked for every entry, and where it is Fine so is each of its entries
+pub book-fine : (format : Format) (xs : List ℕ) (entry : ℕ) → askedVerdict format xs entry ≡ Fine → bookVerdict format xs ≡ Fine
+unfolding askedVerdict
+book-fine format xs entry e = both-fine (bookVerdict format xs) _ e .0
+
+pub asked-fine : (format : Format) (xs : List ℕ) (entry : ℕ) → bookVerdict format xs ≡ Fine → 1 ≤ entry → entry ≤ entriesOf xs → askedVerdict format xs entry ≡ Fine
+unfolding askedVerdict first
+asked-fine format xs entry fine low high = rw fine (sym (last-faultless 18 (in-range 1 (entriesOf xs) entry low high)))
 
 -- so of the entry asked for, which is entry - 1 when counted from 0
 pub record EntryAsked (format : Format) (xs : List ℕ) (entry : ℕ) : Type 0 where

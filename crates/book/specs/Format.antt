@@ -3,9 +3,13 @@
 use Prim.Native.Nat.{ℕ, zero, suc, _+_, _*_, _/_, _%_, _≤_, _<_}
 use mathlib.Core.Path.{_≡_}
 use mathlib.Core.List.{List, [], _∷_, _++_}
-use Rattle.rows.specs.Row.{row}
+use Rattle.rows.specs.Row.{at, row}
 use Rattle.sizes.specs.Sizes.{weight, Permitted}
 use Rattle.order.specs.Rank.{unrankModules, unrankSettings}
+
+-- every element of a list is a byte, as in every lent buffer
+unfoldable pub Bytes : List ℕ → Type 0
+Bytes xs = (i : ℕ) → at xs i < 256
 
 -- ---- numbers in bytes, least first
 

@@ -7,9 +7,8 @@ use Rattle.sizes.specs.declared.Verdict.the-variants.{Fine}
 use Rattle.sizes.specs.Refusal.{first}
 use Rattle.sizes.proofs.Refusals.{was-fine, last-faulty, last-faultless}
 use Rattle.arrangement.proofs.Checks.{wrong-length, right-length}
-use Rattle.book.specs.Format.{formatOne, entryPlace}
+use Rattle.book.specs.Format.{Bytes, formatOne, entryPlace}
 use Rattle.book.specs.Read.{entriesOf, expected, firstOf, entryVerdict, contentsVerdict, endVerdict}
-use Rattle.book.proofs.Bytes.{Bytes}
 use Rattle.book.proofs.Checks.{none-judged, entry-passed, stops-in, entry-inside, n-read, expected-first, expected-next, expected-high}
 use borrow.Author.Needs.{needs}
 use Rattle.book.proofs.check.judge_contents.Statement.{statement}
