@@ -15,7 +15,7 @@ use lib.Seq.{ext-getD}
 use borrow.Author.Tests.{eqb-true, eq-eqb, not-false}
 use Rattle.rows.specs.Row.{at, row, front}
 use Rattle.rows.specs.Search.{ifLt, lowest}
-use Rattle.rows.proofs.Cases.{by-lt, by-eq, by-test, if-lt, if-ge, if-le}
+use Rattle.rows.proofs.Cases.{by-lt, by-eq, by-test, opposite, if-lt, if-ge, if-le}
 use Rattle.rows.proofs.Rows.{length-row, at-row, read, begun, stored}
 use Rattle.rows.proofs.Searches.{none-holds, holds-nowhere}
 use Rattle.sizes.specs.declared.Verdict.{Verdict}
@@ -34,7 +34,7 @@ use Rattle.board.specs.Asked.{LentBoard, DigitsAsked}
 use Rattle.board.specs.Read.{NoBoard, Reads, verdictOf, endRead, digitRead}
 use Rattle.board.specs.declared.read.Reading.{Reading}
 use Rattle.board.specs.declared.read.Reading.the-variants.{Rank, Unread}
-use Rattle.board.proofs.Runs.{opposite, lowest-one, lowest-more, lowest-range, full-below, full-here, counter-below, counter-open, run-stops, run-range, pointer-plain, pointer-inside, pointer-behind, counter-place, pointer-place, counters-long, pointers-long, counters-ext, pointers-ext}
+use Rattle.board.proofs.Runs.{lowest-one, lowest-more, lowest-range, full-below, full-here, counter-below, counter-open, run-stops, run-range, pointer-plain, pointer-inside, pointer-behind, counter-place, pointer-place, counters-long, pointers-long, counters-ext, pointers-ext}
 use Rattle.board.proofs.Writing.{run-goes-on, digit-at, is-board}
 
 -- ---- digits

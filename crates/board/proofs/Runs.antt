@@ -17,10 +17,6 @@ use Rattle.board.specs.Board.{place, lowestDigit, full, counter, begins,
 pub back : (j : ℕ) → 1 ≤ j → suc (j - 1) ≡ j
 back j a = omega arith
 
--- a test has one outcome
-pub opposite : {b : Bool} → b ≡ true → b ≡ false → ⊥
-opposite t f = let z : _≡_ {A = Bool} true false = sym t ∙ f in let y : _≡_ {A = ℕ} 0 1 = cc in omega arith
-
 -- ---- s
 
 pub lowest-one : lowestDigit 1 ≡ 2

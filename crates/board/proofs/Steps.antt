@@ -2,7 +2,7 @@
 -- rank. What it reads at s is x, the lowest digit that is not full, and what it writes at s, x and x + 1 is all that changes.
 -- Assumes nothing.
 use mathlib.Core.Path.{_≡_, sym, ap, _∙_}
-use mathlib.Core.Bool.{Bool, true, false}
+use mathlib.Core.Bool.{true, false}
 use mathlib.Core.Logic.{_≢_, _↔_}
 use mathlib.Core.List.{List}
 use Prim.Native.Nat.{ℕ, suc, _-_, _*_, _≤_, _<_}
@@ -11,7 +11,7 @@ use lib.ListN.{length, set, length-set}
 use lib.Seq.{getD-set-same, getD-set-other, ext-getD}
 use borrow.Author.Tests.{eq-eqb, ne-eqb, lt-leb}
 use Rattle.rows.specs.Row.{at, row}
-use Rattle.rows.proofs.Cases.{by-eq, by-lt, in-range}
+use Rattle.rows.proofs.Cases.{by-eq, by-lt, opposite, in-range}
 use Rattle.rows.proofs.Rows.{length-row, at-row, row-ext, set-row}
 use Rattle.sizes.specs.declared.Verdict.the-variants.{Fine}
 use Rattle.sizes.specs.Sizes.{weight}
@@ -116,10 +116,7 @@ module _ {n k r x : ℕ} {cs fs : List ℕ} (k-low : 1 ≤ k) (n-low : 1 ≤ n) 
 
   -- the round closes at the last rank
   pub closes-last : closes n k fs ≡ true → nextRank n k r ≡ 0
-  closes-last t = by-lt n x (λ g. next-closes k-low n-low r-low turns (omega (arith, turns .most))) (λ g. absurd (not-both (closes-not g)))
-    where
-      not-both : closes n k fs ≡ false → ⊥
-      not-both f = let z : _≡_ {A = Bool} true false = sym t ∙ f in let y : _≡_ {A = ℕ} 0 1 = cc in absurd (omega arith)
+  closes-last t = by-lt n x (λ g. next-closes k-low n-low r-low turns (omega (arith, turns .most))) (λ g. absurd (opposite t (closes-not g)))
 
   pub last-closes : nextRank n k r ≡ 0 → closes n k fs ≡ true
   last-closes e = by-lt n x (λ g. closes-so (omega (arith, turns .most))) (λ g. absurd (omega (arith, next-inside k-low n-low r-low turns g)))

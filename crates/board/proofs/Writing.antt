@@ -10,7 +10,7 @@ use native.Mathlib.Omega.{arith}
 use lib.Dec.{eqb}
 use lib.ListN.{length, set}
 use Rattle.rows.specs.Row.{at, front}
-use Rattle.rows.proofs.Cases.{by-test}
+use Rattle.rows.proofs.Cases.{by-test, opposite}
 use Rattle.rows.proofs.Rows.{read, begun, stored, written-over}
 use Rattle.sizes.specs.Sizes.{weight, Permitted, mostSlots, mostSettings}
 use Rattle.sizes.proofs.Weights.{weight-zero, weight-suc}
@@ -135,11 +135,8 @@ pub pointer-is : (n k : ℕ) (d : ℕ → ℕ) (i : ℕ) → cond (full k d i) (
 pointer-is n k d i =
     let e : suc i - 1 ≡ i = omega arith in
     by-test (full k d i)
-    (λ t. rw t (sym (pointer-inside n k d (suc i) (λ s. true-or-false (sym t ∙ full-below k d i (omega arith))) (rw e t))))
+    (λ t. rw t (sym (pointer-inside n k d (suc i) (λ s. opposite t (full-below k d i (omega arith))) (rw e t))))
     (λ f. rw f (sym (pointer-behind n k d (suc i) (omega arith) (rw e f))))
-  where
-    true-or-false : _≡_ {A = Bool} true false → ⊥
-    true-or-false e = let z : _≡_ {A = ℕ} 0 1 = cc in omega arith
 
 -- the first i pointers are made, and it is known whether digit i is full
 pub record Pointing (n k : ℕ) (ds made : List ℕ) (within : Bool) (i : ℕ) : Type 0 where

@@ -17,9 +17,6 @@ ghost use Rattle.text.specs.Text.{Put, slotLine, lineMost};
 // A byte more than the longest good input, four numbers of 20 digits: more is not looked at.
 const LONGEST: usize = 85;
 
-// The most bytes of a line.
-const LINE: usize = 202;
-
 // Prints the line of a refusal.
 fn refuse(number: u8, out: &mut [u8])
     requires { ⌜ lineMost ≤ length (now out) ⌝ }
@@ -33,7 +30,7 @@ fn make_room(out: &mut [u8], end: usize) -> usize
     requires { ⌜ (lineMost ≤ length (now out)) × (end ≤ length (now out)) ⌝ }
     ensures { λ r. ⌜ r + lineMost ≤ length (now (out .exit)) ⌝ }
 {
-    if LINE <= out.len() - end {
+    if write::LINE_MOST <= out.len() - end {
         return end;
     }
     io::write_all(STDOUT_FILENO, &out[..end]);

@@ -1,7 +1,7 @@
 -- Looking finds the flip that the rank names, so it leads to the next rank. The lowest slot behind which the slots stop falling
 -- is the length of the longest falling prefix, and the falling prefixes are those whose digits are full. Assumes nothing.
 use mathlib.Core.Path.{_≡_, sym, ap, _∙_}
-use mathlib.Core.Bool.{Bool, true, false}
+use mathlib.Core.Bool.{true, false}
 use mathlib.Core.Logic.{_≢_}
 use mathlib.Core.List.{List}
 use Prim.Native.Nat.{ℕ, zero, suc, _+_, _-_, _*_, _≤_, _<_}
@@ -11,7 +11,7 @@ use native.Mathlib.Omega.{arith}
 use borrow.Author.Tests.{eq-eqb, ne-eqb, le-leb, lt-leb}
 use Rattle.rows.specs.Row.{at}
 use Rattle.rows.specs.Search.{ifLt, orElse, lowest}
-use Rattle.rows.proofs.Cases.{by-eq, by-lt}
+use Rattle.rows.proofs.Cases.{by-eq, by-lt, opposite}
 use Rattle.rows.proofs.Searches.{by-lowest, none-yet, passed, found}
 use Rattle.sizes.specs.Sizes.{mostSlots}
 use Rattle.arrangement.specs.Arrangement.{Valid}
@@ -23,10 +23,6 @@ use Rattle.order.proofs.Digits.{IsFlip, Full, flip-out, flip-unique, full-suc, 
 use Rattle.order.proofs.Steps.{step-flip}
 use Rattle.look.specs.Look.{offset, expectedSetting, stops, look}
 use Rattle.look.proofs.Falling.{Falls, offset-below, expected-below, falls-full}
-
--- a test is not both
-not-both : {b : Bool} → b ≡ true → b ≡ false → ⊥
-not-both t f = let z : _≡_ {A = Bool} true false = sym t ∙ f in let y : _≡_ {A = ℕ} 0 1 = cc in absurd (omega arith)
 
 -- ---- one slot more
 
@@ -52,8 +48,8 @@ module _ (n k : ℕ) (M S : ℕ → ℕ) where
   goes i f =
       by-eq (S (suc i)) (expectedSetting k (M 0) (S 0) (M (suc i)))
       (λ e. by-lt (offset n (M 0) (M i)) (offset n (M 0) (M (suc i)))
-      (λ u. record { expected = e; up = u }) (λ l. absurd (not-both (stops-module i e l) f)))
-      (λ ne. absurd (not-both (stops-setting i ne) f))
+      (λ u. record { expected = e; up = u }) (λ l. absurd (opposite (stops-module i e l) f)))
+      (λ ne. absurd (opposite (stops-setting i ne) f))
 
   -- ---- the falling prefixes
 
@@ -69,7 +65,7 @@ module _ (n k : ℕ) (M S : ℕ → ℕ) where
 
   falls-no-more : (j : ℕ) → stops n k M S j ≡ true → ¬ (Falls n k (suc (suc j)) M S)
   falls-no-more j t f =
-      not-both t (goes-on j (record { expected = f .expected (suc j) (le-refl _); up = f .up j (le-refl _) }))
+      opposite t (goes-on j (record { expected = f .expected (suc j) (le-refl _); up = f .up j (le-refl _) }))
 
   -- j is the length of the longest falling prefix
   pub record IsLook (j : ℕ) : Type 0 where

@@ -33,12 +33,6 @@ row-ext f g zero e = refl
 row-ext f g (suc n) e =
     ap₂ (λ (s : List ℕ) (x : ℕ). s ++ (x ∷ [])) (row-ext f g n (λ i h. e i (omega arith))) (e n (le-refl _))
 
--- a list is the row of what stands in it
-pub row-at : (xs : List ℕ) → row (at xs) (length xs) ≡ xs
-row-at xs =
-    ext-getD 0 (row (at xs) (length xs)) xs (length-row (at xs) (length xs))
-    (λ i h. at-row (at xs) (length xs) i (omega (arith, length-row (at xs) (length xs))))
-
 -- ---- a front
 
 pub length-front : (f : ℕ → ℕ) (n : ℕ) (xs : List ℕ) → n ≤ length xs → length (front f n xs) ≡ length xs

@@ -9,7 +9,7 @@ use native.Mathlib.Omega.{arith}
 use lib.ListN.{length, take, drop, getD, set, length-append, length-set}
 use lib.Seq.{paste, paste-zero, paste-suc, length-paste, take-paste, drop-paste, take-length, drop-drop, drop-cons, getD-set-same, drop-set-lt, take-set-le}
 use Rattle.rows.specs.Row.{at}
-use Rattle.text.specs.Text.{Put, decimal, ended, numbersLine, walkWord, nextWord, refusedWord, headLine, slot, slots, slotLine, nextLine, refusedLine, lineMost}
+use Rattle.text.specs.Text.{Put, decimal, ended, numbersLine, walkWord, headLine, slot, slots, slotLine, lineMost}
 use Rattle.text.specs.Line.{most}
 use Rattle.text.proofs.Decimals.{decimal-one, decimal-more, long-one, long-more, long-some, long-most, long-byte}
 
@@ -146,14 +146,6 @@ slot-line-short rank flip n M S hr hf hn m s =
 
 pub word-short : (word : List ℕ) (x : ℕ) → length word ≤ 8 → x ≤ most → length (word ++ ended x 10) ≤ lineMost
 word-short word x few h = simp length-append (omega (arith, ended-most x 10 h))
-
-pub next-short : (rank : ℕ) → rank ≤ most → length (nextLine rank) ≤ lineMost
-unfolding nextLine nextWord
-next-short rank h = word-short nextWord rank (omega arith) h
-
-pub refused-short : (number : ℕ) → number ≤ most → length (refusedLine number) ≤ lineMost
-unfolding refusedLine refusedWord
-refused-short number h = word-short refusedWord number (omega arith) h
 
 -- ---- lines by their parts
 

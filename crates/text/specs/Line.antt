@@ -1,5 +1,5 @@
 -- 01, the listing: its input. What is taken is what printing four numbers gives, and nothing else.
-use Prim.Native.Nat.{ℕ, _≤_, _+_, _*_, _-_}
+use Prim.Native.Nat.{ℕ, _≤_, _+_, _*_, _-_, _^_}
 use mathlib.Core.Path.{_≡_}
 use mathlib.Core.Bool.{Bool, false, cond}
 use mathlib.Core.List.{List, _++_}
@@ -12,9 +12,9 @@ use Rattle.text.specs.declared.read.Line.the-variants.{Numbers, Bad}
 use Rattle.text.specs.declared.read.Part.{Part}
 use Rattle.text.specs.declared.read.Part.the-variants.{Number, Nothing}
 
--- the largest number: 2 ^ 64 - 1
+-- the largest number that is taken
 abbrev pub most : ℕ
-most = 18446744073709551615
+most = 2 ^ 64 - 1
 
 -- the input xs is the line of four numbers, each at most 2 ^ 64 - 1
 pub record Says (xs : List ℕ) (n k r t : ℕ) : Type 0 where

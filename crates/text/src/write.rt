@@ -7,6 +7,9 @@ ghost use lib.ListN.{length};
 ghost use Rattle.rows.specs.Row.{at as slotOf};
 ghost use Rattle.text.specs.Text.{Put, decimal, ended, slot, slots, headLine, slotLine, nextLine, refusedLine, lineMost};
 
+// The most bytes of a line.
+pub const LINE_MOST: usize = 202;
+
 // How many digits a number has.
 fn count_digits(number: u64) -> usize
     ensures { λ r. ⌜ r ≡ length (decimal number) ⌝ }

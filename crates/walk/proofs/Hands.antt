@@ -7,7 +7,7 @@ use Prim.Native.Nat.{ℕ, suc, _+_, _-_, _≤_, _<_}
 use native.Mathlib.Omega.{arith}
 use lib.Dec.{eqb}
 use lib.ListN.{length, take, drop}
-use lib.Seq.{getD-take, length-take-le}
+use lib.Seq.{getD-take}
 use Rattle.rows.specs.Row.{at, row, front}
 use Rattle.rows.specs.Search.{orElse}
 use Rattle.rows.proofs.Cases.{inside}
@@ -15,9 +15,9 @@ use Rattle.rows.proofs.Rows.{row-ext}
 use Rattle.rows.proofs.Searches.{lowest-ext}
 use Rattle.sizes.specs.declared.Verdict.{Verdict}
 use Rattle.sizes.specs.declared.Verdict.the-variants.{Fine, Refused}
-use Rattle.sizes.specs.Refusal.{refuses}
-use Rattle.sizes.specs.Sizes.{sizesVerdict, mostSlots}
-use Rattle.sizes.proofs.Refusals.{both-fine, no-fault, was-fine}
+use Rattle.sizes.specs.Refusal.{refuses, unlessRefused}
+use Rattle.sizes.specs.Sizes.{sizesVerdict}
+use Rattle.sizes.proofs.Refusals.{both-fine, no-fault, was-fine, refused-number, done-number}
 use Rattle.sizes.proofs.Weights.{permitted}
 use Rattle.arrangement.specs.Check.{badModule, repeated, badSetting, slotsVerdict}
 use Rattle.arrangement.specs.Flip.{source, flippedModules, flippedSettings, Flippable, flipLengthVerdict}
@@ -27,8 +27,10 @@ use Rattle.order.specs.Rank.{rank}
 use Rattle.order.specs.Asked.{LentAsked}
 use Rattle.order.proofs.Ranks.{rank-ext}
 use Rattle.look.specs.Look.{stops, look}
-use Rattle.walk.specs.Hand.{nothing, walkVerdict, walkFlipVerdict, walkLeft}
+use Rattle.walk.specs.Hand.{walkVerdict, walkFlipVerdict, walkLeft}
 use Rattle.walk.specs.declared.hand.Walk.{Walk}
+use Rattle.walk.specs.declared.hand.Made.{Made}
+use Rattle.walk.specs.declared.hand.Told.{Told}
 use Rattle.walk.specs.Asked.{PlacesAsked}
 
 -- ---- arrangements that agree on n slots
@@ -123,13 +125,24 @@ module _ {v check : Verdict} {t : Bool} (was done : Walk) (v-is : v ≡ check) (
   unfolding walkLeft
   left-done t-is w-is = rw (was-fine v-is told t-is) w-is
 
+-- ---- what a call answers
+
+module _ {v check : Verdict} {t : Bool} (v-is : v ≡ check) (told : t ≡ refuses v) where
+  pub told-refused : (x : ℕ) → t ≡ true → _≡_ {A = Told} (record { verdict = v; number = 0 }) (record { verdict = check; number = unlessRefused check x })
+  told-refused x t-is = λ i. record { verdict = v-is i; number = refused-number x v-is told t-is i }
+
+  pub told-done : {x y : ℕ} → t ≡ false → y ≡ x → _≡_ {A = Told} (record { verdict = v; number = y }) (record { verdict = check; number = unlessRefused check x })
+  told-done t-is y-is = λ i. record { verdict = v-is i; number = done-number v-is told t-is y-is i }
+
+  pub made-refused : {w was : Walk} (done : Walk) → t ≡ true → w ≡ was → _≡_ {A = Made} (record { verdict = v; walk = w }) (record { verdict = check; walk = walkLeft check was done })
+  made-refused {was} done t-is w-is = λ i. record { verdict = v-is i; walk = (w-is ∙ left-refused was done v-is told t-is) i }
+
+  pub made-done : (was : Walk) {w done : Walk} → t ≡ false → w ≡ done → _≡_ {A = Made} (record { verdict = v; walk = w }) (record { verdict = check; walk = walkLeft check was done })
+  made-done was {done} t-is w-is = λ i. record { verdict = v-is i; walk = left-done was done v-is told t-is w-is i }
+
 -- ---- the walk of a rank
 
--- the first places of the 20
-pub own-length : {n : ℕ} → n ≤ mostSlots → length (take n nothing) ≡ n
-own-length {n} l = length-take-le n nothing (omega arith)
-
--- what was written in them
+-- what was written in its first places
 pub places-written : (f : ℕ → ℕ) (n : ℕ) (xs : List ℕ) {ys : List ℕ} → ys ≡ row f n → ys ++ drop n xs ≡ front f n xs
 unfolding front
 places-written f n xs e = ap (λ zs. zs ++ drop n xs) e

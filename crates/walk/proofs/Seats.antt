@@ -9,17 +9,15 @@ use native.Mathlib.Omega.{arith}
 use lib.Dec.{leb, eqb}
 use borrow.Author.Tests.{eqb-true, eq-eqb, leb-false, lt-leb, lt-ltb, le-ltb}
 use Rattle.rows.specs.Search.{ifLt, lowest}
-use Rattle.rows.proofs.Cases.{by-lt, by-test, if-lt, if-ge}
+use Rattle.rows.proofs.Cases.{by-lt, by-test, opposite, if-lt, if-ge}
 use Rattle.rows.proofs.Searches.{by-lowest}
 use Rattle.arrangement.specs.Flip.{raised, source, flippedModules, flippedSettings}
 use Rattle.arrangement.proofs.Flips.{raised-lt, source-front, source-behind, source-lt}
 use mathlib.Core.List.{List}
-use lib.ListN.{length, take}
-use lib.Seq.{length-take-le}
+use lib.ListN.{length}
 use Rattle.rows.specs.Row.{at, row}
 use Rattle.rows.proofs.Rows.{length-row, at-row}
 use Rattle.arrangement.specs.Arrangement.{Valid}
-use Rattle.arrangement.specs.Copy.{wide, blank}
 use Rattle.arrangement.proofs.Validity.{valid-ext}
 use Rattle.order.specs.Rank.{unrankModules, unrankSettings}
 use Rattle.order.specs.Asked.{LentAsked, WriteAsked}
@@ -112,9 +110,6 @@ both : (a b : Bool) → cond a b false ≡ true → (a ≡ true) × (b ≡ true)
 both true b e = (refl, e)
 both false b e = (e, cc)
 
-opposite : {b : Bool} → b ≡ true → b ≡ false → ⊥
-opposite t f = let z : _≡_ {A = Bool} true false = sym t ∙ f in let y : _≡_ {A = ℕ} 0 1 = cc in omega arith
-
 module _ (M S : ℕ → ℕ) (v c i : ℕ) where
   stands : M i ≡ v → S i ≡ c → standsAt M S v c i ≡ true
   unfolding standsAt
@@ -165,13 +160,6 @@ seats-together {n} {k} {M} {S} {v} {w} {x} {s} {y} {u} c e first second =
     sym (lt-ltb 0 (lowest (λ i. cond (standsAt M S v c i) (standsAt M S w e (suc i)) false) (n - 1)) (omega (arith, z))))
 
 -- ---- the arrangement of a rank, written into two rows
-
--- the first places of a row by value
-pub own-length : {n : ℕ} → n ≤ wide → length (take n blank) ≡ n
-own-length {n} l = length-take-le n blank (omega arith)
-
-pub own-places : {n : ℕ} → n ≤ wide → n ≡ length (take n blank)
-own-places l = sym (own-length l)
 
 -- what stands in a row that was written
 row-is : (f : ℕ → ℕ) (n : ℕ) {xs : List ℕ} → xs ≡ row f n → (i : ℕ) → i < n → f i ≡ at xs i

@@ -15,7 +15,7 @@ ghost use Rattle.look.specs.Look.{look as lookOf};
 ghost use Rattle.walk.specs.Hand.{walkVerdict, walkFlipVerdict, walkOf, noWalk, flippedWalk, makes, tellsRank, tellsFlip, flips, movesOn};
 ghost use Rattle.walk.specs.Asked.{PlacesAsked};
 
-pub const PLACES: usize = 20;
+pub const PLACES: usize = sizes::MOST_SLOTS;
 
 pub struct Walk {
     pub n: usize,

@@ -1,9 +1,8 @@
 -- `walk::hand::make` meets its contract: the walk of the rank, or the walk of no rank where that is refused. Assumes nothing.
-use mathlib.Core.Path.{_∙_}
 use Rattle.sizes.proofs.Refusals.{was-fine}
 use Rattle.walk.specs.Hand.{walkOf, noWalk, makes}
 use Rattle.walk.proofs.Checks.{start-asked}
-use Rattle.walk.proofs.Hands.{left-refused, left-done}
+use Rattle.walk.proofs.Hands.{made-refused, made-done}
 use borrow.Author.Needs.{needs}
 use Rattle.walk.proofs.hand.make.Statement.{statement}
 use Rattle.walk.proofs.hand.make.Tie as tie
@@ -22,11 +21,7 @@ unfolding makes
 returns c =
     let judged = c .before .before in
     let a = judged .before .before .args in
-    let verdict-is = judged .before .judge-start .ensures in
-    λ i. record {
-      verdict = verdict-is i;
-      walk = (c .no-walk .ensures ∙ left-refused noWalk (walkOf (a .n) (a .k) (a .rank)) verdict-is (judged .refuses .ensures) (c .before .if1 .taken)) i;
-    }
+    made-refused (judged .before .judge-start .ensures) (judged .refuses .ensures) (walkOf (a .n) (a .k) (a .rank)) (c .before .if1 .taken) (c .no-walk .ensures)
 
 walk-of-requires : tie.Need-walk-of-requires
 walk-of-requires c κs = start-asked _ _ _ (was-fine (c .before .before .judge-start .ensures) (c .before .refuses .ensures) (c .if1 .left))
@@ -35,11 +30,7 @@ returns-2 : tie.Need-returns-2
 unfolding makes
 returns-2 c =
     let judged = c .before .before in
-    let verdict-is = judged .before .judge-start .ensures in
-    λ i. record {
-      verdict = verdict-is i;
-      walk = left-done noWalk _ verdict-is (judged .refuses .ensures) (c .before .if1 .left) (c .walk-of .ensures) i;
-    }
+    made-done (judged .before .judge-start .ensures) (judged .refuses .ensures) noWalk (c .before .if1 .left) (c .walk-of .ensures)
 
 pub make-spec : {M : Type 1} → statement M
 make-spec =

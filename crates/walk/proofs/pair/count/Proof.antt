@@ -1,8 +1,7 @@
 -- `walk::pair::count` meets its contract: its rows have the places that are lent. Assumes nothing.
 use native.Mathlib.Numerals.{add-one}
-use native.Mathlib.Omega.{arith}
-use mathlib.Core.Path.{_∙_}
-use Rattle.walk.proofs.Seats.{own-places, own-length}
+use mathlib.Core.Path.{sym, _∙_}
+use lib.Seq.{length-take-le}
 use borrow.Author.Needs.{needs}
 use Rattle.walk.proofs.pair.count.Statement.{statement}
 use Rattle.walk.proofs.pair.count.Tie as tie
@@ -11,7 +10,7 @@ array-borrow-prefix-counters : tie.Need-array-borrow-prefix-counters
 array-borrow-prefix-counters c = search needs
 
 slice-aggregate-count-by : tie.Need-slice-aggregate-count-by
-slice-aggregate-count-by c = own-places (omega (arith, c .before .pre .sizes .n-high))
+slice-aggregate-count-by c = sym (length-take-le _ _ (search needs))
 
 add-pointers : tie.Need-add-pointers
 add-pointers c = search needs
@@ -20,13 +19,13 @@ array-borrow-prefix-pointers : tie.Need-array-borrow-prefix-pointers
 array-borrow-prefix-pointers c = search needs
 
 slice-aggregate-count-by-2 : tie.Need-slice-aggregate-count-by-2
-slice-aggregate-count-by-2 c = own-places (omega (arith, c .before .before .pre .sizes .n-high))
+slice-aggregate-count-by-2 c = sym (length-take-le _ _ (search needs))
 
 count-by-requires : tie.Need-count-by-requires
 count-by-requires c κs =
     let asked = c .before .before .pre in (
       asked,
-      record { sizes = asked .sizes; counters = own-length (omega (arith, asked .sizes .n-high)); pointers = own-length (omega (arith, asked .sizes .n-high)) ∙ add-one _ },
+      record { sizes = asked .sizes; counters = length-take-le _ _ (search needs); pointers = length-take-le _ _ (search needs) ∙ add-one _ },
     )
 
 returns : tie.Need-returns

@@ -1,7 +1,7 @@
 -- `walk::hand::Walk::look` meets its contract: 0 where the walk is refused, and else what was asked for. Assumes nothing.
-use Rattle.sizes.proofs.Refusals.{was-fine, refused-number, done-number}
+use Rattle.sizes.proofs.Refusals.{was-fine}
 use Rattle.walk.specs.Hand.{walkLook, tellsFlip}
-use Rattle.walk.proofs.Hands.{walk-asked}
+use Rattle.walk.proofs.Hands.{walk-asked, told-refused, told-done}
 use borrow.Author.Needs.{needs}
 use Rattle.walk.proofs.hand.Walk.look.Statement.{statement}
 use Rattle.walk.proofs.hand.Walk.look.Tie as tie
@@ -16,10 +16,7 @@ returns : tie.Need-returns
 unfolding tellsFlip
 returns c =
     let judged = c .before in
-    λ i. record {
-      verdict = judged .before .judge .ensures i;
-      number = refused-number (walkLook (judged .before .before .before .before .args .self)) (judged .before .judge .ensures) (judged .refuses .ensures) (c .if1 .taken) i;
-    }
+    told-refused (judged .before .judge .ensures) (judged .refuses .ensures) (walkLook (judged .before .before .before .before .args .self)) (c .if1 .taken)
 
 look-places-requires : tie.Need-look-places-requires
 look-places-requires c κs = walk-asked _ (was-fine (c .before .before .judge .ensures) (c .before .refuses .ensures) (c .if1 .left))
@@ -28,10 +25,7 @@ returns-2 : tie.Need-returns-2
 unfolding tellsFlip walkLook
 returns-2 c =
     let judged = c .before .before in
-    λ i. record {
-      verdict = judged .before .judge .ensures i;
-      number = done-number (judged .before .judge .ensures) (judged .refuses .ensures) (c .before .if1 .left) (c .look-places .ensures .0) i;
-    }
+    told-done (judged .before .judge .ensures) (judged .refuses .ensures) (c .before .if1 .left) (c .look-places .ensures .0)
 
 pub look-spec : {M : Type 1} → statement M
 look-spec =
