@@ -16,7 +16,7 @@ use Rattle.board.specs.Board.{counters, pointers}
 use Rattle.board.specs.Step.{closes, stepFlip, lentStepVerdict, steppedCounters, steppedPointers}
 use Rattle.board.specs.Read.{Reads, verdictOf}
 use Rattle.board.specs.declared.read.Reading.{Reading}
-use Rattle.walk.specs.Pair.{pairVerdict, pairCount}
+use Rattle.stretch.specs.Pair.{pairVerdict, pairCount}
 use Rattle.book.specs.Format.{formatOne}
 use Rattle.book.specs.Read.{nOf, kOf, countOf, modulesOf, settingsOf, rankOf, askedVerdict, lentEntryVerdict}
 use Rattle.limpet.specs.Answer.{answerOf, packed, Outcome, outcome}

@@ -16,9 +16,9 @@ pub extern "C" fn limpet_pair_count(
 ) -> u64
     ensures { λ r. ⌜ Returns (pairReturns n k rank t v c w e) r ⌝ }
 {
-    let verdict = walk::pair::judge(n, k, rank, t, v, c, w, e);
+    let verdict = stretch::pair::judge(n, k, rank, t, v, c, w, e);
     if verdict.refuses() {
         return pack(verdict, 0);
     }
-    pack(verdict, walk::pair::count(n, k, rank, t, v, c, w, e))
+    pack(verdict, stretch::pair::count(n, k, rank, t, v, c, w, e))
 }

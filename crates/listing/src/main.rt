@@ -7,7 +7,6 @@ use text::read::Line;
 use text::write;
 use walk::hand;
 use walk::hand::PLACES;
-use walk::stretch;
 ghost use Prim.Native.Nat.{_+_, _≤_};
 ghost use lib.ListN.{length};
 ghost use Rattle.rows.specs.Row.{at};

@@ -13,11 +13,11 @@ use Rattle.sizes.specs.Sizes.{weight}
 use Rattle.sizes.proofs.Weights.{weight-zero, weight-suc, weight-pos}
 use Rattle.arrangement.specs.Arrangement.{Cell, Valid, homeModules, homeSettings}
 use Rattle.arrangement.specs.Flip.{raised, source, flippedModules, flippedSettings}
-use Rattle.arrangement.proofs.Flips.{raised-lt, source-front, source-behind, module-front, module-behind, setting-front, setting-behind}
-use Rattle.order.specs.Rank.{raisedBy, loweredBy, renamedModule, renamedSetting, restoredModule, restoredSetting, lastDigit, prefixModules, prefixSettings, rank, lastModules, lastSettings}
+use Rattle.arrangement.proofs.Flips.{flipped-valid, raised-lt, source-front, source-behind, module-front, module-behind, setting-front, setting-behind}
+use Rattle.order.specs.Rank.{raisedBy, loweredBy, renamedModule, renamedSetting, restoredModule, restoredSetting, lastDigit, prefixModules, prefixSettings, rank, unrankModules, unrankSettings, lastModules, lastSettings}
 use Rattle.order.specs.Digits.{flipOut, nextRank}
 use Rattle.order.proofs.Renaming.{lowered-raised, lowered-once-more, lowered-self, renamed-above, renamed-below, setting-above, setting-below, restored-above, restored-below, restored-setting-above, restored-setting-below}
-use Rattle.order.proofs.Ranks.{rank-ext, rank-lt, rank-rest, prefix-valid, last, k-low, last-digit-lt, module-back, setting-back, rank-once-module, rank-once-setting}
+use Rattle.order.proofs.Ranks.{rank-ext, rank-lt, rank-rest, prefix-valid, last, k-low, last-digit-lt, module-back, setting-back, rank-once-module, rank-once-setting, rank-unrank, unrank-valid, unrank-rank-module, unrank-rank-setting}
 use Rattle.order.proofs.Digits.{IsFlip, Full, flip-out, full-of, full-digit, full-down, rest-of-rest, mul-mod-mul}
 
 -- ---- home and the last arrangement
@@ -222,3 +222,22 @@ step-flip n k (suc p) M S ok h f =
 pub step : (n k : ℕ) (M S : ℕ → ℕ) → Valid n k M S → 1 ≤ k → 1 ≤ n
     → rank n k (flippedModules (flipOut n k (rank n k M S)) M) (flippedSettings k (flipOut n k (rank n k M S)) S) ≡ nextRank n k (rank n k M S)
 step n k M S ok h l = step-flip n k _ M S ok h (flip-out n k _ h l)
+
+-- ---- the arrangement of the next rank
+
+module _ (n k q : ℕ) (k-low : 1 ≤ k) (n-low : 1 ≤ n) (q-low : q < weight n k) where
+  flipped-rank : rank n k (flippedModules (flipOut n k q) (unrankModules n k q)) (flippedSettings k (flipOut n k q) (unrankSettings n k q)) ≡ nextRank n k q
+  flipped-rank =
+      let back = rank-unrank n k q k-low q-low in
+      let made = step n k (unrankModules n k q) (unrankSettings n k q) (unrank-valid n k q k-low q-low) k-low n-low in rw back at made
+
+  pub flip-high : flipOut n k q ≤ n
+  flip-high = flip-out n k q k-low n-low .most
+
+  pub next-module : (i : ℕ) → i < n → flippedModules (flipOut n k q) (unrankModules n k q) i ≡ unrankModules n k (nextRank n k q) i
+  next-module i l =
+      sym (unrank-rank-module n k _ _ (flipped-valid k-low flip-high (unrank-valid n k q k-low q-low)) i l) ∙ ap (λ x. unrankModules n k x i) flipped-rank
+
+  pub next-setting : (i : ℕ) → i < n → flippedSettings k (flipOut n k q) (unrankSettings n k q) i ≡ unrankSettings n k (nextRank n k q) i
+  next-setting i l =
+      sym (unrank-rank-setting n k _ _ (flipped-valid k-low flip-high (unrank-valid n k q k-low q-low)) i l) ∙ ap (λ x. unrankSettings n k x i) flipped-rank

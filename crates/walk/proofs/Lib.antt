@@ -1,7 +1,4 @@
--- `Checks` has what the checks of a stretch and of a pair come to. `Seats` has what a flip does to where a module stands, and
--- `Counts` that the count by seats and counters is the pair count.
-pub mod Checks
-pub mod Seats
-pub mod Counts
+-- `Hands` has what a check, a rank, a look and a flip of the first places of a walk say, and what a call answers. `Moves` has that
+-- the walk of a rank moves on to the walk of the next.
 pub mod Hands
 pub mod Moves

@@ -18,9 +18,9 @@ use Rattle.arrangement.proofs.Validity.{valid-fine, valid-ext}
 use Rattle.order.specs.Rank.{unrankModules, unrankSettings}
 use Rattle.order.specs.Digits.{flipOut, nextRank}
 use Rattle.order.proofs.Ranks.{rank-ext, rank-unrank, unrank-valid}
+use Rattle.order.proofs.Steps.{flip-high, next-module, next-setting}
 use Rattle.look.proofs.Looks.{look-rank}
 use Rattle.walk.specs.Hand.{nothing, walkVerdict, walkOf, walkRank, walkLook, flippedWalk, walkLeft, tellsRank, movesOn}
-use Rattle.walk.proofs.Counts.{flip-high, next-module, next-setting}
 
 -- a front over a front
 front-over : (f g h : ℕ → ℕ) (n : ℕ) (xs : List ℕ) → ((i : ℕ) → i < n → g i ≡ h i) → front g n (front f n xs) ≡ front h n xs

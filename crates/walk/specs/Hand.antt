@@ -12,8 +12,8 @@ use Rattle.sizes.specs.Sizes.{sizesVerdict, mostSlots}
 use Rattle.arrangement.specs.Check.{slotsVerdict}
 use Rattle.arrangement.specs.Flip.{flippedModules, flippedSettings, flipLengthVerdict}
 use Rattle.order.specs.Rank.{rank, unrankModules, unrankSettings}
+use Rattle.order.specs.Check.{startVerdict}
 use Rattle.look.specs.Look.{look}
-use Rattle.walk.specs.Stretch.{startVerdict}
 use Rattle.walk.specs.declared.hand.Walk.{Walk}
 use Rattle.walk.specs.declared.hand.Made.{Made}
 use Rattle.walk.specs.declared.hand.Told.{Told}

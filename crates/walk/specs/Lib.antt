@@ -1,4 +1,2 @@
-pub mod Stretch
-pub mod Pair
 pub mod Hand
 pub mod Asked

@@ -1,7 +1,6 @@
 // The walk in hand: a record by value of n, k and an arrangement. It has 20 places for modules and 20
 // for settings; those behind n are never looked at, and stay. A refused walk comes back as it was
 // given.
-use crate::stretch;
 use arrangement::check;
 use arrangement::flip;
 use sizes::Verdict;
@@ -116,7 +115,7 @@ fn walk_of(n: usize, k: usize, rank: u64) -> Walk
 pub fn make(n: usize, k: usize, rank: u64) -> Made
     ensures { λ r. ⌜ r ≡ makes n k rank ⌝ }
 {
-    let verdict = stretch::judge_start(n, k, rank);
+    let verdict = order::check::judge_start(n, k, rank);
     if verdict.refuses() {
         return Made {
             verdict,

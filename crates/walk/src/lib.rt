@@ -1,4 +1,2 @@
-// The walk in hand (`hand`), the check of a stretch (`stretch`) and the pair count (`pair`).
+// The walk in hand (`hand`).
 pub mod hand;
-pub mod pair;
-pub mod stretch;

@@ -1,6 +1,6 @@
 -- `listing::answer` is safe: a stretch that is not refused has at most 20 slots. Assumes nothing.
 use mathlib.Core.Path.{sym, _∙_}
-use Rattle.walk.proofs.Checks.{stretch-asked}
+use Rattle.stretch.proofs.Checks.{stretch-asked}
 use borrow.Author.Needs.{needs}
 use Rattle.listing.proofs.answer.Statement.{statement}
 use Rattle.listing.proofs.answer.Tie as tie

@@ -2,7 +2,7 @@
 -- and so fits its bits. Assumes nothing.
 use native.Mathlib.Omega.{arith}
 use Rattle.sizes.proofs.Refusals.{was-fine}
-use Rattle.walk.proofs.Checks.{pair-asked}
+use Rattle.stretch.proofs.Checks.{pair-asked}
 use Rattle.limpet.specs.Calls.{pairReturns}
 use Rattle.limpet.proofs.Answers.{refused-returns, judged}
 use borrow.Author.Needs.{needs}

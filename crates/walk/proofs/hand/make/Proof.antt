@@ -1,7 +1,7 @@
 -- `walk::hand::make` meets its contract: the walk of the rank, or the walk of no rank where that is refused. Assumes nothing.
 use Rattle.sizes.proofs.Refusals.{was-fine}
+use Rattle.order.proofs.Checks.{start-asked}
 use Rattle.walk.specs.Hand.{walkOf, noWalk, makes}
-use Rattle.walk.proofs.Checks.{start-asked}
 use Rattle.walk.proofs.Hands.{made-refused, made-done}
 use borrow.Author.Needs.{needs}
 use Rattle.walk.proofs.hand.make.Statement.{statement}
