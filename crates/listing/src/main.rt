@@ -2,8 +2,8 @@
 // on, each with its rank and the flip out of it. Output goes out in large writes.
 use libc::STDIN_FILENO;
 use libc::STDOUT_FILENO;
+use line::Line;
 use sizes::Verdict;
-use text::read::Line;
 use text::write;
 use walk::hand;
 use walk::hand::PLACES;
@@ -91,7 +91,7 @@ fn main() {
     let mut input = [0u8; LONGEST];
     let mut out = io::large_buffer();
     let count = io::read_full(STDIN_FILENO, &mut input);
-    match text::read::read(&input[..count]) {
+    match line::read(&input[..count]) {
         Line::Bad => refuse(17, &mut out),
         Line::Numbers(n, k, rank, t) => answer(n as usize, k as usize, rank, t, &mut out),
     }

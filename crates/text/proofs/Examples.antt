@@ -3,7 +3,8 @@
 use mathlib.Core.Path.{_≡_, refl}
 use mathlib.Core.List.{[], _∷_}
 use Rattle.rows.specs.Row.{at}
-use Rattle.text.specs.Text.{digits, decimal, ended, numbersLine, walkWord, nextWord, refusedWord, headLine, slot, slots, slotLine, nextLine, refusedLine}
+use Rattle.line.specs.Decimal.{digits, decimal, ended, numbersLine}
+use Rattle.text.specs.Text.{walkWord, nextWord, refusedWord, headLine, slot, slots, slotLine, nextLine, refusedLine}
 
 -- `2 2 6 3`, a newline
 pub input : numbersLine 2 2 6 3 ≡ 50 ∷ 32 ∷ 50 ∷ 32 ∷ 54 ∷ 32 ∷ 51 ∷ 10 ∷ []

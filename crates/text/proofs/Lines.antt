@@ -9,9 +9,9 @@ use native.Mathlib.Omega.{arith}
 use lib.ListN.{length, take, drop, getD, set, length-append, length-set}
 use lib.Seq.{paste, paste-zero, paste-suc, length-paste, take-paste, drop-paste, take-length, drop-drop, drop-cons, getD-set-same, drop-set-lt, take-set-le}
 use Rattle.rows.specs.Row.{at}
-use Rattle.text.specs.Text.{Put, decimal, ended, numbersLine, walkWord, headLine, slot, slots, slotLine, lineMost}
-use Rattle.text.specs.Line.{most}
-use Rattle.text.proofs.Decimals.{decimal-one, decimal-more, long-one, long-more, long-some, long-most, long-byte}
+use Rattle.line.specs.Decimal.{most, decimal, ended, numbersLine}
+use Rattle.text.specs.Text.{Put, walkWord, headLine, slot, slots, slotLine, lineMost}
+use Rattle.line.proofs.Decimals.{decimal-one, decimal-more, long-one, long-more, long-some, long-most, long-byte}
 
 -- ---- texts in a buffer
 

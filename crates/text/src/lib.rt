@@ -1,3 +1,2 @@
-// The text of the listing: its input line (`read`) and its output lines (`write`), on byte slices.
-pub mod read;
+// The output lines of the listing (`write`), on byte slices.
 pub mod write;

@@ -5,7 +5,8 @@ ghost use mathlib.Core.List.{[], _∷_, _++_};
 ghost use Prim.Native.Nat.{_+_, _*_, _≤_};
 ghost use lib.ListN.{length};
 ghost use Rattle.rows.specs.Row.{at as slotOf};
-ghost use Rattle.text.specs.Text.{Put, decimal, ended, slot, slots, headLine, slotLine, nextLine, refusedLine, lineMost};
+ghost use Rattle.line.specs.Decimal.{decimal, ended};
+ghost use Rattle.text.specs.Text.{Put, slot, slots, headLine, slotLine, nextLine, refusedLine, lineMost};
 
 // The most bytes of a line.
 pub const LINE_MOST: usize = 202;

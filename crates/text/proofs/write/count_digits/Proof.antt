@@ -4,9 +4,8 @@ use Prim.Native.Nat.{_+_, _≤_}
 use mathlib.Core.Path.{_≡_}
 use native.Mathlib.Omega.{arith}
 use lib.ListN.{length}
-use Rattle.text.specs.Text.{decimal}
-use Rattle.text.specs.Line.{most}
-use Rattle.text.proofs.Decimals.{long-one, long-more, long-most}
+use Rattle.line.specs.Decimal.{most, decimal}
+use Rattle.line.proofs.Decimals.{long-one, long-more, long-most}
 use Rattle.text.proofs.write.count_digits.Statement.{statement}
 use Rattle.text.proofs.write.count_digits.Tie as tie
 

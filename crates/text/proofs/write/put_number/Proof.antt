@@ -3,7 +3,7 @@
 use Prim.Native.Nat.{_/_}
 use mathlib.Core.Path.{refl}
 use native.Mathlib.Omega.{arith}
-use Rattle.text.proofs.Decimals.{long-some, long-more}
+use Rattle.line.proofs.Decimals.{long-some, long-more}
 use Rattle.text.proofs.Lines.{Spelling, spelling-first, spelling-on, spelled}
 use borrow.Author.Needs.{needs}
 use Rattle.text.proofs.write.put_number.Statement.{statement}

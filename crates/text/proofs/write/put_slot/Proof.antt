@@ -1,6 +1,6 @@
 -- `text::write::put_slot` meets its contract: it writes the space, the module with its colon, and the setting. Assumes nothing.
 use native.Mathlib.Omega.{arith}
-use Rattle.text.proofs.Decimals.{long-byte}
+use Rattle.line.proofs.Decimals.{long-byte}
 use Rattle.text.proofs.Lines.{slot-put, slot-short, ended-long}
 use borrow.Author.Needs.{needs}
 use Rattle.text.proofs.write.put_slot.Statement.{statement}

@@ -4,7 +4,7 @@ use native.Mathlib.Omega.{arith}
 use lib.ListN.{length}
 use Rattle.rows.specs.Row.{at}
 use Rattle.text.specs.Text.{slots, slotLine, lineMost}
-use Rattle.text.proofs.Decimals.{long-most}
+use Rattle.line.proofs.Decimals.{long-most}
 use Rattle.text.proofs.Lines.{ended-most, slots-short, slot-line-short, slots-put}
 use borrow.Author.Needs.{needs}
 use Rattle.text.proofs.write.put_slots.Statement.{statement}

@@ -1,20 +1,16 @@
 -- 01, the listing: its input. What is taken is what printing four numbers gives, and nothing else.
-use Prim.Native.Nat.{ℕ, _≤_, _+_, _*_, _-_, _^_}
+use Prim.Native.Nat.{ℕ, _≤_, _+_, _*_, _-_}
 use mathlib.Core.Path.{_≡_}
 use mathlib.Core.Bool.{Bool, false, cond}
 use mathlib.Core.List.{List, _++_}
 use lib.Dec.{leb, eqb}
 use lib.ListN.{length, drop}
 use Rattle.rows.specs.Search.{outside}
-use Rattle.text.specs.Text.{ended, numbersLine}
-use Rattle.text.specs.declared.read.Line.{Line}
-use Rattle.text.specs.declared.read.Line.the-variants.{Numbers, Bad}
-use Rattle.text.specs.declared.read.Part.{Part}
-use Rattle.text.specs.declared.read.Part.the-variants.{Number, Nothing}
-
--- the largest number that is taken
-abbrev pub most : ℕ
-most = 2 ^ 64 - 1
+use Rattle.line.specs.Decimal.{most, ended, numbersLine}
+use Rattle.line.specs.declared.Line.{Line}
+use Rattle.line.specs.declared.Line.the-variants.{Numbers, Bad}
+use Rattle.line.specs.declared.Part.{Part}
+use Rattle.line.specs.declared.Part.the-variants.{Number, Nothing}
 
 -- the input xs is the line of four numbers, each at most 2 ^ 64 - 1
 pub record Says (xs : List ℕ) (n k r t : ℕ) : Type 0 where

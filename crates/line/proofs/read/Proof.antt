@@ -1,10 +1,10 @@
--- `text::read::read` meets its contract: the four numbers stand one behind the other, up to the end. Assumes nothing.
+-- `line::read` meets its contract: the four numbers stand one behind the other, up to the end. Assumes nothing.
 use native.Mathlib.Omega.{arith}
-use Rattle.text.specs.Line.{NumberAt}
-use Rattle.text.proofs.Readings.{number-there, none-there, bad-first, bad-second, bad-third, bad-fourth, bad-behind, line-read}
+use Rattle.line.specs.Line.{NumberAt}
+use Rattle.line.proofs.Readings.{number-there, none-there, bad-first, bad-second, bad-third, bad-fourth, bad-behind, line-read}
 use borrow.Author.Needs.{needs}
-use Rattle.text.proofs.read.read.Statement.{statement}
-use Rattle.text.proofs.read.read.Tie as tie
+use Rattle.line.proofs.read.Statement.{statement}
+use Rattle.line.proofs.read.Tie as tie
 
 -- the numbers that were read
 first : (c : tie.After-n) → NumberAt (c .before .before .before .before .args .input .now) 0 32 (c .n .given .0 .0) (c .n .given .0 .1 .0)

@@ -7,8 +7,7 @@ use native.Mathlib.Omega.{arith}
 use lib.ListN.{length, length-append}
 use borrow.Author.Tests.{lt-ltb, le-ltb}
 use Rattle.rows.proofs.Cases.{by-lt}
-use Rattle.text.specs.Text.{digits, decimal}
-use Rattle.text.specs.Line.{most}
+use Rattle.line.specs.Decimal.{most, digits, decimal}
 
 one-digit : (m x : ℕ) → x < 10 → digits (suc m) x ≡ (48 + x) ∷ []
 unfolding digits

@@ -1,10 +1,10 @@
--- `text::read::goes_on` meets its contract: its tests are those of the definition, the last made with no product. Assumes nothing.
+-- `line::goes_on` meets its contract: its tests are those of the definition, the last made with no product. Assumes nothing.
 use mathlib.Core.Path.{sym}
 use native.Mathlib.Omega.{arith}
 use Rattle.rows.proofs.Cases.{below-range, above-range}
-use Rattle.text.proofs.Readings.{goes-on, stops, stops-zero, too-large, at-last}
-use Rattle.text.proofs.read.goes_on.Statement.{statement}
-use Rattle.text.proofs.read.goes_on.Tie as tie
+use Rattle.line.proofs.Readings.{goes-on, stops, stops-zero, too-large, at-last}
+use Rattle.line.proofs.goes_on.Statement.{statement}
+use Rattle.line.proofs.goes_on.Tie as tie
 
 returns : tie.Need-returns
 returns c = sym (stops _ _ (below-range 48 57 _ (omega arith)))

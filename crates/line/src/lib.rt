@@ -2,7 +2,7 @@
 // so nothing wraps.
 ghost use mathlib.Core.Path.{_≡_};
 ghost use Prim.Native.Nat.{_<_};
-ghost use Rattle.text.specs.Line.{Reads, ReadsPart, goesOn};
+ghost use Rattle.line.specs.Line.{Reads, ReadsPart, goesOn};
 
 // What a reading answers: the four numbers of the line, or that the input is no such line.
 pub enum Line {

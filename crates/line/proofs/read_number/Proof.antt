@@ -1,4 +1,4 @@
--- `text::read::read_number` meets its contract. The loop's invariant: the bytes up to place i are the value in decimal. The measure
+-- `line::read_number` meets its contract. The loop's invariant: the bytes up to place i are the value in decimal. The measure
 -- is the number of bytes left. Assumes nothing.
 use Prim.Native.Nat.{_-_}
 use mathlib.Core.Path.{_≡_, sym, _∙_}
@@ -8,11 +8,11 @@ use lib.ListN.{length}
 use borrow.Author.Tests.{not-true, not-false}
 use Rattle.rows.specs.Row.{at}
 use Rattle.rows.proofs.Cases.{below-range, above-range}
-use Rattle.text.specs.Line.{goesOn, ReadsPart}
-use Rattle.text.proofs.Readings.{Digit, goes-digit, Reading, reading-first, reading-on, reading-ends, no-byte, no-digit, stuck, run-out}
+use Rattle.line.specs.Line.{goesOn, ReadsPart}
+use Rattle.line.proofs.Readings.{Digit, goes-digit, Reading, reading-first, reading-on, reading-ends, no-byte, no-digit, stuck, run-out}
 use borrow.Author.Needs.{needs}
-use Rattle.text.proofs.read.read_number.Statement.{statement}
-use Rattle.text.proofs.read.read_number.Tie as tie
+use Rattle.line.proofs.read_number.Statement.{statement}
+use Rattle.line.proofs.read_number.Tie as tie
 
 abbrev Inv-loop : tie.InvT-loop
 Inv-loop input from end first value₀ i₀ value i = Reading input from value i

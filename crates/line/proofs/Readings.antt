@@ -15,13 +15,13 @@ use borrow.Author.Tests.{eq-eqb, ne-eqb, eqb-false, le-leb, lt-leb, leb-true}
 use Rattle.rows.specs.Row.{at}
 use Rattle.rows.specs.Search.{outside}
 use Rattle.rows.proofs.Cases.{by-lt, by-test, in-range, inside}
-use Rattle.text.specs.Text.{decimal, ended, numbersLine}
-use Rattle.text.specs.Line.{most, Says, Reads, goesOn, NumberAt, ReadsPart}
-use Rattle.text.specs.declared.read.Line.{Line}
-use Rattle.text.specs.declared.read.Line.the-variants.{Numbers, Bad}
-use Rattle.text.specs.declared.read.Part.{Part}
-use Rattle.text.specs.declared.read.Part.the-variants.{Number, Nothing}
-use Rattle.text.proofs.Decimals.{decimal-one, decimal-more, by-digits}
+use Rattle.line.specs.Decimal.{most, decimal, ended, numbersLine}
+use Rattle.line.specs.Line.{Says, Reads, goesOn, NumberAt, ReadsPart}
+use Rattle.line.specs.declared.Line.{Line}
+use Rattle.line.specs.declared.Line.the-variants.{Numbers, Bad}
+use Rattle.line.specs.declared.Part.{Part}
+use Rattle.line.specs.declared.Part.the-variants.{Number, Nothing}
+use Rattle.line.proofs.Decimals.{decimal-one, decimal-more, by-digits}
 
 -- ---- one more digit
 
