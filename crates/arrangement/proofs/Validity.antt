@@ -84,7 +84,7 @@ pub record Fit (n k : ℕ) (xs : List ℕ) (more : ℕ) (ys : List ℕ) : Type 0
   pub two : length ys ≡ n + more
 
 -- a buffer that is not refused has its length
-has-length : (n : ℕ) (xs : List ℕ) → lengthVerdict n xs ≡ Fine → length xs ≡ n
+pub has-length : (n : ℕ) (xs : List ℕ) → lengthVerdict n xs ≡ Fine → length xs ≡ n
 unfolding lengthVerdict
 has-length n xs e = eqb-true (length xs) n (not-false _ (no-fault 4 _ e))
 
@@ -157,7 +157,7 @@ home-valid n k h = record {
 
 -- ---- numbers and places fit a byte each
 
-small-slots : (n k : ℕ) (M S : ℕ → ℕ) → n ≤ mostSlots → Small (slotsVerdict n k M S)
+pub small-slots : (n k : ℕ) (M S : ℕ → ℕ) → n ≤ mostSlots → Small (slotsVerdict n k M S)
 unfolding slotsVerdict
 small-slots n k M S h =
     small-first _ _ (small-at 5 _ (omega arith) (omega (arith, lowest-le (badModule n M) n)))

@@ -17,14 +17,14 @@ use Rattle.rows.proofs.Cases.{by-last, by-lt, by-test, opposite, inside, in-ran
 use Rattle.rows.proofs.Rows.{length-row, at-row}
 use Rattle.sizes.specs.declared.Verdict.{Verdict}
 use Rattle.sizes.specs.declared.Verdict.the-variants.{Fine, Refused}
-use Rattle.sizes.specs.Refusal.{refuses, first, refusedIf}
+use Rattle.sizes.specs.Refusal.{refuses, numberOf, placeOf, first, refusedIf}
 use Rattle.sizes.specs.Sizes.{weight, Permitted, sizesVerdict, mostSlots}
-use Rattle.sizes.proofs.Refusals.{is-fine, both-fine, no-fault, faultless, last-faultless}
-use Rattle.sizes.proofs.Weights.{permitted, not-refused}
+use Rattle.sizes.proofs.Refusals.{both-fine, no-fault, faultless, last-faultless, Small, small-first, small-if}
+use Rattle.sizes.proofs.Weights.{permitted, not-refused, small-sizes}
 use Rattle.arrangement.specs.Arrangement.{Valid}
 use Rattle.arrangement.specs.Check.{lengthVerdict, slotsVerdict}
 use Rattle.arrangement.proofs.Checks.{right-length}
-use Rattle.arrangement.proofs.Validity.{valid, valid-fine}
+use Rattle.arrangement.proofs.Validity.{valid, valid-fine, has-length, small-slots}
 use Rattle.book.specs.Format.{Bytes, Format, formatOne, numberIn, mostEntries, entryPlace, bodyPlace}
 use Rattle.book.specs.Read.{entriesOf, nOf, kOf, offsetOf, countOf, expected, modulesOf, settingsOf, inEntry, firstOf, cutVerdict, headVerdict, entryVerdict, endVerdict, contentsVerdict, bodyVerdict, bookVerdict, askedVerdict, lentEntryVerdict}
 use Rattle.book.specs.Asked.{ContentsAsked, BodiesAsked}
@@ -237,11 +237,11 @@ entry-asked {format} xs {entry} e =
 -- and of the lent buffers
 pub lent-fine : (format : Format) (xs : List ℕ) (entry : ℕ) (ms ss : List ℕ) → lentEntryVerdict format xs entry ms ss ≡ Fine →
     (askedVerdict format xs entry ≡ Fine) × (length ms ≡ nOf xs (entry - 1)) × (length ss ≡ nOf xs (entry - 1))
-unfolding lentEntryVerdict lengthVerdict
+unfolding lentEntryVerdict
 lent-fine format xs entry ms ss e =
     let both = both-fine (askedVerdict format xs entry) _ e in
     let lengths = both-fine (lengthVerdict (nOf xs (entry - 1)) ms) _ (both .1) in
-    (both .0, eqb-true _ _ (not-false _ (no-fault 4 _ (lengths .0))), eqb-true _ _ (not-false _ (no-fault 4 _ (lengths .1))))
+    (both .0, has-length _ ms (lengths .0), has-length _ ss (lengths .1))
 
 -- what the bodies' check asks, behind a Fine verdict of the contents
 pub bodies-asked : (xs : List ℕ) → ContentsAsked xs → contentsVerdict formatOne xs ≡ Fine → BodiesAsked xs
@@ -300,3 +300,40 @@ module _ (f : ℕ → ℕ) {m n : ℕ} {ws : List ℕ} (rest : List ℕ) (same :
   written-at i l =
       let long : length ws ≡ n = ap length written ∙ length-row f m ∙ same in
       ap (λ ys. at ys i) (take-at ws rest n long) ∙ ap (λ ys. at ys i) written ∙ at-row f m i (omega arith)
+
+-- ---- numbers and places fit a byte each
+
+small-in-entry : (i : ℕ) (v : Verdict) → i < mostEntries → Small v → Small (inEntry i v)
+unfolding inEntry numberOf placeOf
+small-in-entry i Fine l small = small
+small-in-entry i (Refused number place) l small = record { number = small .number; place = omega arith }
+
+small-first-of : (v : ℕ → Verdict) (m : ℕ) → m ≤ mostEntries → ((i : ℕ) → i < m → Small (v i)) → Small (firstOf v m)
+unfolding firstOf numberOf placeOf
+small-first-of v zero few small = record { number = omega arith; place = omega arith }
+small-first-of v (suc m) few small =
+    small-first _ _ (small-first-of v m (omega arith) (λ i l. small i (omega arith)))
+    (λ fine. small-in-entry m (v m) few (small m (omega arith)))
+
+small-entry : (format : Format) (xs : List ℕ) (i : ℕ) → Small (entryVerdict format xs i)
+unfolding entryVerdict
+small-entry format xs i = small-first _ _ (small-sizes (nOf xs i) (kOf xs i)) (λ fine. small-if 15 _ (omega arith))
+
+small-book : (format : Format) (xs : List ℕ) → Small (bookVerdict format xs)
+unfolding bookVerdict cutVerdict headVerdict contentsVerdict endVerdict bodyVerdict
+small-book format xs =
+    small-first _ _ (small-if 13 _ (omega arith))
+    (λ long. small-first _ _ (small-if 14 _ (omega arith))
+    (λ head.
+    let few = inside 1 mostEntries (entriesOf xs) (both-pass (at xs 0) (format .number) _ (no-fault 14 _ head) .1) .1 in
+    small-first _ _ (small-if 13 _ (omega arith))
+    (λ uncut. small-first _ _
+    (small-first _ _ (small-first-of _ _ few (λ i l. small-entry format xs i)) (λ fine. small-if 16 _ (omega arith)))
+    (λ contents. small-first-of _ _ few
+    (λ i l. small-slots _ _ _ _ (entry-checked format xs i (each-fine (entryVerdict format xs) (entriesOf xs) (both-fine (firstOf (entryVerdict format xs) (entriesOf xs)) _ contents .0) i l) .sizes .n-high))))))
+
+pub small-lent-entry : (format : Format) (xs : List ℕ) (entry : ℕ) (ms ss : List ℕ) → Small (lentEntryVerdict format xs entry ms ss)
+unfolding lentEntryVerdict askedVerdict lengthVerdict
+small-lent-entry format xs entry ms ss =
+    small-first _ _ (small-first _ _ (small-book format xs) (λ fine. small-if 18 _ (omega arith)))
+    (λ asked. small-first _ _ (small-if 4 _ (omega arith)) (λ fine. small-if 4 _ (omega arith)))

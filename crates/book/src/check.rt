@@ -38,7 +38,8 @@ fn judge_entry(book: &[u8], i: usize, place: usize) -> Verdict
     if size.refuses() {
         return size;
     }
-    if format::number_in(book, entry + 2, 4) != place as u64 {
+    let offset = format::number_in(book, entry + 2, 4);
+    if offset != place as u64 {
         return Verdict::Refused(15, 0);
     }
     let count = format::number_in(book, entry + 6, 8);

@@ -22,7 +22,7 @@ use Rattle.sizes.proofs.Weights.{permitted}
 use Rattle.arrangement.specs.Check.{badModule, repeated, badSetting, slotsVerdict}
 use Rattle.arrangement.specs.Flip.{source, flippedModules, flippedSettings, Flippable, flipLengthVerdict}
 use Rattle.arrangement.proofs.Flips.{source-lt}
-use Rattle.arrangement.proofs.Validity.{valid, valid-ext}
+use Rattle.arrangement.proofs.Validity.{valid, valid-ext, slots-ext}
 use Rattle.order.specs.Rank.{rank}
 use Rattle.order.specs.Asked.{LentAsked}
 use Rattle.order.proofs.Ranks.{rank-ext}
@@ -36,15 +36,6 @@ use Rattle.walk.specs.Asked.{PlacesAsked}
 -- ---- arrangements that agree on n slots
 
 module _ (n k : ℕ) (M S M' S' : ℕ → ℕ) (same-M : (i : ℕ) → i < n → M i ≡ M' i) (same-S : (i : ℕ) → i < n → S i ≡ S' i) where
-  slots-ext : slotsVerdict n k M S ≡ slotsVerdict n k M' S'
-  unfolding slotsVerdict badModule badSetting repeated
-  slots-ext =
-      rw (
-        lowest-ext (badModule n M) (badModule n M') n (λ i l. rw (same-M i l)),
-        lowest-ext (repeated M) (repeated M') n (λ i l. rw (lowest-ext (λ h. eqb (M h) (M i)) (λ h. eqb (M' h) (M' i)) i (λ h g. rw (same-M h (omega arith), same-M i l)))),
-        lowest-ext (badSetting k S) (badSetting k S') n (λ i l. rw (same-S i l)),
-      )
-
   look-ext : 1 ≤ n → look n k M S ≡ look n k M' S'
   unfolding look stops
   look-ext h =

@@ -29,7 +29,7 @@ returns-2 c =
 shared-slice-read-if3 : tie.Need-shared-slice-read-if3
 shared-slice-read-if3 c =
     let passed = c .before .before in
-    checked formatOne _ (was-fine (passed .before .before .judge-book .ensures) (passed .before .refuses .ensures) (passed .if1 .left)) .headed
+    omega (arith, checked formatOne _ (was-fine (passed .before .before .judge-book .ensures) (passed .before .refuses .ensures) (passed .if1 .left)) .headed)
 
 cast-if3 : tie.Need-cast-if3
 cast-if3 c = omega (arith, c .shared-slice-known2 .given 1)
