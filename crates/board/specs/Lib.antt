@@ -1,4 +1,3 @@
 pub mod Board
-pub mod Step
 pub mod Read
 pub mod Asked

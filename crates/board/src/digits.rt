@@ -1,5 +1,4 @@
 // The board of digits, in rows by value.
-use crate::step::lowest_digit;
 use arrangement::copy::WIDE;
 ghost use mathlib.Core.Path.{_≡_};
 ghost use mathlib.Core.Bool.{cond};
@@ -7,7 +6,14 @@ ghost use Prim.Native.Nat.{suc, _-_, _≤_};
 ghost use Rattle.rows.specs.Row.{front};
 ghost use Rattle.sizes.specs.Sizes.{Permitted, mostSettings, mostSlots};
 ghost use Rattle.arrangement.specs.Copy.{blank};
-ghost use Rattle.board.specs.Board.{place, full, counter as counterOf, runEnd, pointer as pointerOf};
+ghost use Rattle.board.specs.Board.{place, lowestDigit, full, counter as counterOf, runEnd, pointer as pointerOf};
+
+// s, the lowest digit that can be below its full value.
+pub fn lowest_digit(k: usize) -> usize
+    ensures { λ r. ⌜ r ≡ lowestDigit k ⌝ }
+{
+    if k == 1 { 2 } else { 1 }
+}
 
 // Whether digit j is full.
 fn is_full(k: usize, j: usize, digit: u8) -> bool

@@ -12,7 +12,7 @@ use Rattle.sizes.specs.declared.Verdict.{Verdict}
 use Rattle.sizes.specs.declared.Verdict.the-variants.{Fine, Refused}
 use Rattle.sizes.specs.Refusal.{refuses, numberOf, placeOf, unlessRefused}
 use Rattle.sizes.proofs.Refusals.{was-fine, Small}
-use Rattle.board.specs.Step.{stepFlip, closes}
+use Rattle.step.specs.Step.{stepFlip, closes}
 use Rattle.board.specs.declared.read.Reading.{Reading}
 use Rattle.board.proofs.Readings.{one-reading}
 use Rattle.limpet.specs.Calls.{stepValue, ReadReturns}

@@ -13,7 +13,7 @@ use Rattle.order.specs.Rank.{rank, unrankModules, unrankSettings}
 use Rattle.look.specs.Look.{look}
 use Rattle.order.specs.Digits.{digit}
 use Rattle.board.specs.Board.{counters, pointers}
-use Rattle.board.specs.Step.{closes, stepFlip, lentStepVerdict, steppedCounters, steppedPointers}
+use Rattle.step.specs.Step.{closes, stepFlip, lentStepVerdict, steppedCounters, steppedPointers}
 use Rattle.board.specs.Read.{Reads, verdictOf}
 use Rattle.board.specs.declared.read.Reading.{Reading}
 use Rattle.stretch.specs.Pair.{pairVerdict, pairCount}

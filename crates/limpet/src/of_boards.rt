@@ -1,6 +1,6 @@
 // What C asks of counter boards: the board of a rank, one step, and the rank of a board.
 use crate::answer::pack;
-use board::step::Stepped;
+use step::Stepped;
 ghost use mathlib.Core.Path.{_≡_};
 ghost use mathlib.Core.Bool.{cond};
 ghost use Prim.Native.Nat.{_+_, _≤_};
@@ -45,11 +45,11 @@ pub extern "C" fn limpet_board_step(
 ) -> u64
     ensures { λ r. ⌜ Leaves (stepLeaves n k (now (counters .entry)) (now (pointers .entry))) r (now (counters .exit)) (now (pointers .exit)) ⌝ }
 {
-    let verdict = board::step::judge(n, k, counters, pointers);
+    let verdict = step::judge(n, k, counters, pointers);
     if verdict.refuses() {
         return pack(verdict, 0);
     }
-    let stepped = board::step::step(n, k, counters, pointers);
+    let stepped = step::step(n, k, counters, pointers);
     pack(verdict, step_value(stepped))
 }
 

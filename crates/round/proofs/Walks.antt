@@ -14,11 +14,11 @@ use Rattle.arrangement.proofs.Flips.{flipped-valid}
 use Rattle.order.specs.Digits.{flipOut, nextRank}
 use Rattle.order.proofs.Ranks.{rank-ext, rank-lt, rank-once-module, rank-once-setting}
 use Rattle.look.proofs.Looks.{look-is, look-rank, look-step}
-use Rattle.board.specs.Step.{closes, stepFlip, steppedCounters, steppedPointers}
+use Rattle.step.specs.Step.{closes, stepFlip, steppedCounters, steppedPointers}
 use Rattle.board.specs.Read.{Reads}
 use Rattle.board.specs.declared.read.Reading.{Reading}
 use Rattle.board.specs.declared.read.Reading.the-variants.{Rank}
-use Rattle.board.proofs.Steps.{step-board, step-flip, step-closes}
+use Rattle.step.proofs.Steps.{step-board, step-flip, step-closes}
 use Rattle.board.proofs.Readings.{one-reading, board-read}
 use Rattle.round.specs.Walk.{Arrangement, Same, ValidArrangement, rankOf, lookAt, flipped, walked, InHand}
 

@@ -18,10 +18,10 @@ use Rattle.order.specs.Rank.{rank, unrankModules, unrankSettings}
 use Rattle.order.specs.Digits.{flipOut, nextRank}
 use Rattle.order.proofs.Steps.{flip-high, next-module, next-setting}
 use Rattle.board.specs.Board.{IsBoard}
-use Rattle.board.specs.Step.{stepFlip, steppedCounters, steppedPointers}
-use Rattle.board.specs.Asked.{StepAsked}
+use Rattle.step.specs.Step.{stepFlip, steppedCounters, steppedPointers}
+use Rattle.step.specs.Asked.{StepAsked}
 use Rattle.board.proofs.Runs.{counters-long, pointers-long}
-use Rattle.board.proofs.Steps.{step-board, step-fine, step-flip}
+use Rattle.step.proofs.Steps.{step-board, step-fine, step-flip}
 use Rattle.stretch.specs.Stretch.{rankAt}
 use Rattle.stretch.specs.Pair.{pairCount}
 use Rattle.stretch.specs.Asked.{StretchAsked, Seated, together}

@@ -172,7 +172,7 @@ fn count_by(
         if stand_together(n, first, second, c, e) {
             count += 1;
         }
-        let stepped = board::step::step(n, k, counters, pointers);
+        let stepped = step::step(n, k, counters, pointers);
         first = turn(k, stepped.flip, first);
         second = turn(k, stepped.flip, second);
         i += 1;

@@ -1,7 +1,7 @@
 -- `board::read::read` meets its contract: buffers that are refused are not read. Assumes nothing.
 use mathlib.Core.Path.{sym, _∙_}
 use Rattle.arrangement.proofs.Validity.{fit}
-use Rattle.board.proofs.Verdicts.{lent-board}
+use Rattle.board.proofs.Checks.{lent-board}
 use Rattle.board.proofs.Readings.{buffers-refused}
 use borrow.Author.Needs.{needs}
 use Rattle.board.proofs.read.read.Statement.{statement}

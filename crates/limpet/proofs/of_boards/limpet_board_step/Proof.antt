@@ -3,8 +3,8 @@ use mathlib.Core.Path.{refl, _∙_, ap}
 use native.Mathlib.Omega.{arith}
 use lib.ListN.{length}
 use Rattle.sizes.proofs.Refusals.{was-fine}
-use Rattle.board.specs.Asked.{StepAsked}
-use Rattle.board.proofs.Verdicts.{step-asked, step-flip-high, counters-length, pointers-length}
+use Rattle.step.specs.Asked.{StepAsked}
+use Rattle.step.proofs.Verdicts.{step-asked, step-flip-high, counters-length, pointers-length}
 use Rattle.limpet.specs.Calls.{stepLeaves}
 use Rattle.limpet.proofs.Answers.{refused-leaves, done-leaves, step-value-is, step-value-high}
 use borrow.Author.Needs.{needs}

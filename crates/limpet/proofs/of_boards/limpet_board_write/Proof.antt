@@ -5,7 +5,7 @@ use lib.ListN.{length}
 use Rattle.sizes.proofs.Refusals.{was-fine}
 use Rattle.board.specs.Asked.{BoardAsked}
 use Rattle.board.proofs.Runs.{counters-long, pointers-long}
-use Rattle.board.proofs.Verdicts.{board-asked}
+use Rattle.board.proofs.Checks.{board-asked}
 use Rattle.limpet.specs.Calls.{boardLeaves}
 use Rattle.limpet.proofs.Answers.{refused-leaves, done-leaves}
 use borrow.Author.Needs.{needs}

@@ -17,10 +17,10 @@ use Rattle.sizes.specs.declared.Verdict.the-variants.{Fine}
 use Rattle.sizes.specs.Sizes.{weight}
 use Rattle.sizes.proofs.Refusals.{faultless, last-faultless}
 use Rattle.order.specs.Digits.{digit, flipOut, nextRank}
 use Rattle.board.specs.Board.{place, lowestDigit, counter, runEnd, pointer, counters, pointers, IsBoard}
-use Rattle.board.specs.Step.{put, pointed, closes, stepFlip, fills, counterVerdict, stepVerdict, steppedCounters, steppedPointers}
+use Rattle.step.specs.Step.{put, pointed, closes, stepFlip, fills, counterVerdict, stepVerdict, steppedCounters, steppedPointers}
 use Rattle.board.proofs.Runs.{back, lowest-range, run-range, pointer-plain, pointer-end, counter-place, pointer-place}
-use Rattle.board.proofs.Turns.{Turning, s-low, points, counter-at, counter-filled, counter-more, counter-stays, pointer-lower, pointer-now-lower, pointer-far, pointer-next, pointer-joined, pointer-parted, pointer-own, pointer-next-stays, was-open, next-inside, next-closes, by-turning, turning-flip, turning-closes}
+use Rattle.step.proofs.Turns.{Turning, s-low, points, counter-at, counter-filled, counter-more, counter-stays, pointer-lower, pointer-now-lower, pointer-far, pointer-next, pointer-joined, pointer-parted, pointer-own, pointer-next-stays, was-open, next-inside, next-closes, by-turning, turning-flip, turning-closes}
 
 -- a row with three places written over, one after the other
 three-written : (f g : ℕ → ℕ) (n a b c u v w : ℕ) → a < n → b < n → c < n → b ≢ c → w ≡ g c → v ≡ g b → (a ≢ b → a ≢ c → u ≡ g a) →

@@ -1,10 +1,10 @@
--- `board::step::judge_step` meets its contract: it returns at the first check that decides. Assumes nothing.
+-- `step::judge_step` meets its contract: it returns at the first check that decides. Assumes nothing.
 use native.Mathlib.Omega.{arith}
 use Rattle.board.proofs.Runs.{lowest-range}
-use Rattle.board.proofs.Verdicts.{points-low, points-high, points-behind, points-to}
+use Rattle.step.proofs.Verdicts.{points-low, points-high, points-behind, points-to}
 use borrow.Author.Needs.{needs}
-use Rattle.board.proofs.step.judge_step.Statement.{statement}
-use Rattle.board.proofs.step.judge_step.Tie as tie
+use Rattle.step.proofs.judge_step.Statement.{statement}
+use Rattle.step.proofs.judge_step.Tie as tie
 
 lowest-digit-requires : tie.Need-lowest-digit-requires
 lowest-digit-requires c κs = search needs

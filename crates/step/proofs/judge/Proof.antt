@@ -1,11 +1,11 @@
--- `board::step::judge` meets its contract: it returns at the first check that refuses. Assumes nothing.
+-- `step::judge` meets its contract: it returns at the first check that refuses. Assumes nothing.
 use Rattle.sizes.proofs.Refusals.{stops, goes-on, was-fine}
 use Rattle.arrangement.proofs.Validity.{fit}
-use Rattle.board.specs.Step.{lentStepVerdict}
-use Rattle.board.proofs.Verdicts.{lent-board}
+use Rattle.step.specs.Step.{lentStepVerdict}
+use Rattle.board.proofs.Checks.{lent-board}
 use borrow.Author.Needs.{needs}
-use Rattle.board.proofs.step.judge.Statement.{statement}
-use Rattle.board.proofs.step.judge.Tie as tie
+use Rattle.step.proofs.judge.Statement.{statement}
+use Rattle.step.proofs.judge.Tie as tie
 
 judge-buffers-requires : tie.Need-judge-buffers-requires
 judge-buffers-requires c κs = search needs

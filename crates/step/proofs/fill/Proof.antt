@@ -1,9 +1,9 @@
--- `board::step::fill` meets its contract: it puts one number in the counters, and three in the pointers, in their order. Assumes
+-- `step::fill` meets its contract: it puts one number in the counters, and three in the pointers, in their order. Assumes
 -- nothing.
-use Rattle.board.proofs.Verdicts.{put-three}
+use Rattle.step.proofs.Verdicts.{put-three}
 use borrow.Author.Needs.{needs}
-use Rattle.board.proofs.step.fill.Statement.{statement}
-use Rattle.board.proofs.step.fill.Tie as tie
+use Rattle.step.proofs.fill.Statement.{statement}
+use Rattle.step.proofs.fill.Tie as tie
 
 add-place : tie.Need-add-place
 add-place c = search needs

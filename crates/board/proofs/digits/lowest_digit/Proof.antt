@@ -1,9 +1,9 @@
--- `board::step::lowest_digit` meets its contract: its two cases are those of the definition. Assumes nothing.
+-- `board::digits::lowest_digit` meets its contract: its two cases are those of the definition. Assumes nothing.
 use mathlib.Core.Path.{sym, ap, _∙_}
 use Rattle.board.specs.Board.{lowestDigit}
 use Rattle.board.proofs.Runs.{lowest-one, lowest-more}
-use Rattle.board.proofs.step.lowest_digit.Statement.{statement}
-use Rattle.board.proofs.step.lowest_digit.Tie as tie
+use Rattle.board.proofs.digits.lowest_digit.Statement.{statement}
+use Rattle.board.proofs.digits.lowest_digit.Tie as tie
 
 returns : tie.Need-returns
 returns c = sym (ap lowestDigit (c .if1 .taken) ∙ lowest-one)

@@ -1,12 +1,14 @@
 // One step of a board, and its check. It reads the pointer at s and what it points to, and looks no
 // further, so that it costs the same whatever n is.
+use board::digits::lowest_digit;
 use sizes::Verdict;
 ghost use mathlib.Core.Path.{_≡_};
 ghost use Prim.Native.Nat.{suc, _≤_, _<_};
 ghost use lib.ListN.{length};
-ghost use Rattle.board.specs.Board.{place as placeOf, lowestDigit};
-ghost use Rattle.board.specs.Step.{put as putIn, closes, stepFlip, counterVerdict, stepVerdict, lentStepVerdict, steppedCounters, steppedPointers};
-ghost use Rattle.board.specs.Asked.{LentBoard, DigitAsked, FillAsked, StepAsked};
+ghost use Rattle.board.specs.Board.{place as placeOf};
+ghost use Rattle.step.specs.Step.{put as putIn, closes, stepFlip, counterVerdict, stepVerdict, lentStepVerdict, steppedCounters, steppedPointers};
+ghost use Rattle.board.specs.Asked.{LentBoard};
+ghost use Rattle.step.specs.Asked.{DigitAsked, FillAsked, StepAsked};
 
 // The number at a place of a row, counted from 1.
 fn place(numbers: &[u8], j: usize) -> usize
@@ -22,13 +24,6 @@ fn put(numbers: &mut [u8], j: usize, number: usize)
     ensures { λ _. ⌜ now (numbers .exit) ≡ putIn (now (numbers .entry)) j number ⌝ }
 {
     numbers[j - 1] = number as u8;
-}
-
-// s, the lowest digit that can be below its full value.
-pub fn lowest_digit(k: usize) -> usize
-    ensures { λ r. ⌜ r ≡ lowestDigit k ⌝ }
-{
-    if k == 1 { 2 } else { 1 }
 }
 
 // The check of digit x, to which the pointer at s points.

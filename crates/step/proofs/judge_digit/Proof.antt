@@ -1,9 +1,9 @@
--- `board::step::judge_digit` meets its contract: its comparisons are those of the check, in its order. Assumes nothing.
+-- `step::judge_digit` meets its contract: its comparisons are those of the check, in its order. Assumes nothing.
 use native.Mathlib.Omega.{arith}
-use Rattle.board.proofs.Verdicts.{product-range, counter-high, stays-open, end-low, end-high, end-fine}
+use Rattle.step.proofs.Verdicts.{product-range, counter-high, stays-open, end-low, end-high, end-fine}
 use borrow.Author.Needs.{needs}
-use Rattle.board.proofs.step.judge_digit.Statement.{statement}
-use Rattle.board.proofs.step.judge_digit.Tie as tie
+use Rattle.step.proofs.judge_digit.Statement.{statement}
+use Rattle.step.proofs.judge_digit.Tie as tie
 
 mul-full : tie.Need-mul-full
 mul-full c = let p = c .before .before .pre in omega (arith, product-range (p .lent .sizes) (p .x-low) (p .x-high))

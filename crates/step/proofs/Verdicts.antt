@@ -19,13 +19,12 @@ use Rattle.sizes.specs.Refusal.{refusedIf, numberOf, placeOf}
 use Rattle.sizes.specs.Sizes.{Permitted, mostSlots}
 use Rattle.sizes.proofs.Refusals.{faulty, faultless, last-faulty, last-faultless, both-fine, no-fault, Small, small-first, small-if}
 use Rattle.arrangement.specs.Check.{buffersVerdict}
-use Rattle.arrangement.proofs.Validity.{Fit, fit, small-buffers}
-use Rattle.order.specs.Check.{lentRankVerdict}
-use Rattle.order.proofs.Checks.{rank-accepted}
+use Rattle.arrangement.proofs.Validity.{fit, small-buffers}
 use Rattle.board.specs.Board.{place, lowestDigit}
-use Rattle.board.specs.Step.{put, pointed, closes, stepFlip, fills, counterVerdict, stepVerdict, lentStepVerdict, steppedCounters, steppedPointers}
-use Rattle.board.specs.Asked.{LentBoard, StepAsked, BoardAsked}
+use Rattle.step.specs.Step.{put, pointed, closes, stepFlip, fills, counterVerdict, stepVerdict, lentStepVerdict, steppedCounters, steppedPointers}
+use Rattle.step.specs.Asked.{StepAsked}
 use Rattle.board.proofs.Runs.{lowest-range}
+use Rattle.board.proofs.Checks.{lent-board}
 
 -- k × x, of a digit x
 pub product-range : {n k x : ℕ} → Permitted n k → 1 ≤ x → x ≤ n → (1 ≤ k * x) × (k * x ≤ 160)
@@ -177,10 +176,6 @@ put-three x s fs e-is a-is b-is d-is =
 
 -- ---- what a call that is not refused may rely on
 
--- two buffers that have their lengths
-pub lent-board : {n k : ℕ} {cs fs : List ℕ} → Fit n k cs 1 fs → LentBoard n k cs fs
-lent-board f = record { sizes = f .sizes; counters = f .one; pointers = f .two ∙ add-one _ }
-
 -- a step
 pub step-asked : (n k : ℕ) (cs fs : List ℕ) → lentStepVerdict n k cs fs ≡ Fine → StepAsked n k cs fs
 unfolding lentStepVerdict
@@ -194,10 +189,6 @@ step-flip-high {n} {k} {cs} {fs} asked =
     by-eq (pointed k fs) (suc n) (λ e. rw (eq-eqb (place fs (lowestDigit k)) (suc n) e) (le-refl n))
     (λ ne. let range = x-range n k cs fs {s = lowestDigit k} {x = place fs (lowestDigit k)} refl refl (asked .fine) in
     rw (ne-eqb (place fs (lowestDigit k)) (suc n) ne) (omega arith))
-
--- the writing of a board
-pub board-asked : (n k r : ℕ) (cs fs : List ℕ) → lentRankVerdict n k r cs 1 fs ≡ Fine → BoardAsked n k r cs fs
-board-asked n k r cs fs e = let a = rank-accepted n k r cs 1 fs e in record { lent = lent-board (a .0); rank = a .1 }
 
 -- ---- the answer of a step
 

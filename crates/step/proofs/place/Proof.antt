@@ -1,10 +1,10 @@
--- `board::step::place` meets its contract: a byte is below 256. Assumes nothing.
+-- `step::place` meets its contract: a byte is below 256. Assumes nothing.
 use mathlib.Core.Path.{refl}
 use Prim.Native.Nat.{_-_}
 use native.Mathlib.Omega.{arith}
 use borrow.Author.Needs.{needs}
-use Rattle.board.proofs.step.place.Statement.{statement}
-use Rattle.board.proofs.step.place.Tie as tie
+use Rattle.step.proofs.place.Statement.{statement}
+use Rattle.step.proofs.place.Tie as tie
 
 sub-result : tie.Need-sub-result
 sub-result c = search needs

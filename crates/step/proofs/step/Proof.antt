@@ -1,13 +1,13 @@
--- `board::step::step` meets its contract: it goes one of the three ways of the definition. What it puts fits, since the check has
+-- `step::step` meets its contract: it goes one of the three ways of the definition. What it puts fits, since the check has
 -- passed. Assumes nothing.
 use Prim.Native.Nat.{_≤_, _<_}
 use native.Mathlib.Omega.{arith}
 use lib.ListN.{length}
 use Rattle.board.proofs.Runs.{lowest-range}
-use Rattle.board.proofs.Verdicts.{Pointed, pointed-digit, closing, gaining, filling}
+use Rattle.step.proofs.Verdicts.{Pointed, pointed-digit, closing, gaining, filling}
 use borrow.Author.Needs.{needs}
-use Rattle.board.proofs.step.step.Statement.{statement}
-use Rattle.board.proofs.step.step.Tie as tie
+use Rattle.step.proofs.step.Statement.{statement}
+use Rattle.step.proofs.step.Tie as tie
 
 lowest-digit-requires : tie.Need-lowest-digit-requires
 lowest-digit-requires c κs = search needs
