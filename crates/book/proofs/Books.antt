@@ -1,14 +1,14 @@
 -- A book is accepted exactly where it is well formed, and what the reader answers determines its bytes. Both rest on one fact: a list
 -- is the book of some stretches exactly where each entry and each body stands in its place (`Laid`). Assumes nothing.
-use Prim.Native.Nat.{ℕ, zero, suc, _+_, _-_, _*_, _^_, _≤_, _<_}
+use Prim.Native.Nat.{ℕ, zero, suc, _+_, _-_, _*_, _≤_, _<_}
 use mathlib.Core.Path.{_≡_, refl, sym, _∙_, ap, ap₂}
 use mathlib.Core.Logic.{_↔_}
 use mathlib.Core.List.{List, [], _∷_, _++_, append-assoc, append-nil}
-use native.Mathlib.Nat.{le-refl, not-suc-le-zero}
+use native.Mathlib.Nat.{le-refl}
 use native.Mathlib.Omega.{arith}
 use lib.ListN.{length, take, drop, length-append}
-use lib.Seq.{slice, slice-cons, length-slice, take-length, take-suc, getD-take, take-all, take-at, drop-at}
-use Rattle.rows.specs.Row.{at, row}
+use lib.Seq.{slice, slice-cons, take-length, take-suc, getD-take, take-all, take-at, drop-at}
+use Rattle.rows.specs.Row.{at}
 use Rattle.rows.proofs.Rows.{length-row, at-row, row-ext}
 use Rattle.sizes.specs.declared.Verdict.the-variants.{Fine}
 use Rattle.sizes.specs.Refusal.{unlessRefused}
@@ -21,7 +21,6 @@ use Rattle.book.specs.Read.{entriesOf, nOf, kOf, offsetOf, countOf, expe
 use Rattle.book.proofs.Bytes.{bytes-long, number-back, slice-back}
 use Rattle.book.proofs.Slices.{take-slice, slice-split, at-slice, slice-row, slice-within, joined-ext, joined-slice}
 use Rattle.book.proofs.Formats.{Sound, IsBody}
-use Rattle.book.specs.Asked.{ContentsAsked}
 use Rattle.book.proofs.Checks.{Checked, EntryChecked, checked, checked-fine, book-fine, asked, asked-fine, entry-inside, body-inside, body-places-rise}
 
 -- ---- places and lengths

@@ -2,22 +2,21 @@
 -- those passed are Fine; and a Fine verdict says what its checks do. Assumes nothing.
 use Prim.Native.Nat.{ℕ, zero, suc, _+_, _-_, _*_, _≤_, _<_}
 use mathlib.Core.Path.{_≡_, refl, sym, _∙_, ap}
-use mathlib.Core.Bool.{Bool, true, false, cond, not}
+use mathlib.Core.Bool.{Bool, true, false, cond}
 use mathlib.Core.List.{List, _++_}
 use native.Mathlib.Nat.{not-suc-le-zero, le-refl}
 use native.Mathlib.Numerals.{add-one}
 use native.Mathlib.Omega.{arith}
-use lib.Dec.{eqb, ltb}
+use lib.Dec.{eqb}
 use lib.ListN.{length, take, replicate, length-append}
 use lib.Seq.{slice, length-take-le, take-at}
 use borrow.Author.Tests.{eq-eqb, ne-eqb, eqb-true, ltb-false, le-ltb, not-false}
 use Rattle.rows.specs.Row.{at, row}
-use Rattle.rows.specs.Search.{outside}
 use Rattle.rows.proofs.Cases.{by-last, by-lt, by-test, opposite, inside, in-range}
 use Rattle.rows.proofs.Rows.{length-row, at-row}
 use Rattle.sizes.specs.declared.Verdict.{Verdict}
 use Rattle.sizes.specs.declared.Verdict.the-variants.{Fine, Refused}
-use Rattle.sizes.specs.Refusal.{refuses, numberOf, placeOf, first, refusedIf}
+use Rattle.sizes.specs.Refusal.{refuses, numberOf, placeOf, first}
 use Rattle.sizes.specs.Sizes.{weight, Permitted, sizesVerdict, mostSlots}
 use Rattle.sizes.proofs.Refusals.{both-fine, no-fault, faultless, last-faultless, Small, small-first, small-if}
 use Rattle.sizes.proofs.Weights.{permitted, not-refused, small-sizes}

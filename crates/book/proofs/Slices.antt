@@ -2,10 +2,10 @@
 -- lists that are joined is the list whose place it has. Assumes nothing.
 use Prim.Native.Nat.{ℕ, zero, suc, _+_, _-_, _≤_, _<_}
 use mathlib.Core.Path.{_≡_, refl, sym, _∙_, ap, ap₂}
-use mathlib.Core.List.{List, [], _∷_, _++_, append-assoc, append-nil}
+use mathlib.Core.List.{List, [], _++_, append-assoc, append-nil}
 use native.Mathlib.Nat.{le-refl, not-suc-le-zero}
 use native.Mathlib.Omega.{arith}
-use lib.ListN.{length, take, drop, getD, take-append-drop, length-append, List·getD-eq-default}
+use lib.ListN.{length, take, drop, take-append-drop, length-append}
 use lib.Seq.{slice, length-slice, length-take-le, take-take, getD-take, getD-drop, drop-append-le, take-at, drop-at, ext-getD}
 use Rattle.rows.specs.Row.{at, row}
 use Rattle.rows.proofs.Cases.{by-last}

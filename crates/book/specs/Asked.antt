@@ -7,7 +7,7 @@ use Rattle.sizes.specs.Sizes.{Permitted}
 use Rattle.book.specs.Format.{formatOne, mostEntries, entryPlace}
 use Rattle.book.specs.Read.{entriesOf, nOf, kOf, expected}
 
--- a book of 1 to 64 entries, whose contents are not cut
+-- a book of at most 64 entries, whose contents are not cut
 pub record ContentsAsked (xs : List ℕ) : Type 0 where
   pub few : entriesOf xs ≤ mostEntries
   pub uncut : entryPlace (entriesOf xs) ≤ length xs

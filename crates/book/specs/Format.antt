@@ -71,7 +71,7 @@ pub record Stretch : Type 0 where
   pub rank : ℕ
   pub count : ℕ
 
--- it may stand in a book: n and k are permitted, and the count is 1 to T
+-- it may stand in a book: n and k are permitted, the rank is below T, and the count is 1 to T
 pub record Bookable (s : Stretch) : Type 0 where
   pub sizes : Permitted (s .n) (s .k)
   pub rank-high : s .rank < weight (s .n) (s .k)
@@ -92,7 +92,7 @@ unfoldable pub joined : (ℕ → List ℕ) → ℕ → List ℕ
 joined f zero = []
 joined f (suc m) = joined f m ++ f m
 
--- the book of e stretches
+-- the book of e stretches: format and entry number, then the entries, then the bodies
 unfoldable pub bookOf : Format → ℕ → (ℕ → Stretch) → List ℕ
 bookOf format e s =
     (format .number ∷ e ∷ []) ++ joined (λ i. entryBytes (bodyPlace format e (λ h. s h .n) i) (s i)) e ++ joined (λ i. bodyBytes format (s i)) e

@@ -1,7 +1,7 @@
 -- 01, "Stretch books" and "Numbers of refusal", 13 to 16 and 18: the reading of any bytes as a book. A book has an order of
 -- refusals of its own, and is refused as a whole: what is wrong with one entry refuses every entry that is asked for.
 use Prim.Native.Nat.{ℕ, zero, suc, _+_, _-_}
-use mathlib.Core.Bool.{Bool, true, cond, not}
+use mathlib.Core.Bool.{true, cond, not}
 use mathlib.Core.List.{List}
 use lib.Dec.{eqb, ltb}
 use lib.ListN.{length}
@@ -22,7 +22,7 @@ use Rattle.book.specs.Format.{Format, numberIn, mostEntries, entryPlace,
 unfoldable pub entriesOf : List ℕ → ℕ
 entriesOf xs = at xs 1
 
--- n, k, offset and count of entry i
+-- n, k, offset and count of entry i. `slice a b` are the bytes from place a on, up to place b and without it
 unfoldable pub nOf : List ℕ → ℕ → ℕ
 nOf xs i = at xs (entryPlace i)
 
@@ -61,11 +61,11 @@ unfoldable pub firstOf : (ℕ → Verdict) → ℕ → Verdict
 firstOf verdict zero = Fine
 firstOf verdict (suc m) = first (firstOf verdict m) (inEntry m (verdict m))
 
--- 13: the book ends before a place where it must not
+-- 13: the book ends before a place up to which it must go
 unfoldable pub cutVerdict : ℕ → List ℕ → Verdict
 cutVerdict end xs = refusedIf 13 (ltb (length xs) end)
 
--- 14: format not the one, or the entry number is 0 or above 64
+-- 14: byte 0 isn't the format's number, or the entry number is 0 or above 64
 unfoldable pub headVerdict : Format → List ℕ → Verdict
 headVerdict format xs = refusedIf 14 (cond (eqb (at xs 0) (format .number)) (outside 1 mostEntries (entriesOf xs)) true)
 
@@ -87,7 +87,7 @@ contentsVerdict format xs = first (firstOf (entryVerdict format xs) (entriesOf x
 unfoldable pub bodyVerdict : Format → List ℕ → ℕ → Verdict
 bodyVerdict format xs i = slotsVerdict (nOf xs i) (kOf xs i) (modulesOf format xs i) (settingsOf format xs i)
 
--- the check of a book
+-- the check of a book: under 2 bytes 13; 14; contents cut 13; the entries; the end; the bodies
 unfoldable pub bookVerdict : Format → List ℕ → Verdict
 bookVerdict format xs =
     first (cutVerdict 2 xs)

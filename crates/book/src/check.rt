@@ -6,12 +6,12 @@ use arrangement::check;
 use sizes::MOST_SLOTS;
 use sizes::Verdict;
 ghost use mathlib.Core.Path.{_≡_};
-ghost use Prim.Native.Nat.{suc, _+_, _<_, _≤_};
+ghost use Prim.Native.Nat.{_+_, _<_, _≤_};
 ghost use lib.ListN.{length};
 ghost use Rattle.rows.specs.Row.{at};
 ghost use Rattle.sizes.specs.Sizes.{mostSlots};
 ghost use Rattle.arrangement.specs.Check.{slotsVerdict};
-ghost use Rattle.book.specs.Format.{formatOne, mostEntries, entryPlace};
+ghost use Rattle.book.specs.Format.{formatOne, mostEntries};
 ghost use Rattle.book.specs.Read.{entriesOf, expected, inEntry, firstOf, entryVerdict, contentsVerdict, bodyVerdict, bookVerdict, askedVerdict, lentEntryVerdict};
 ghost use Rattle.book.specs.Asked.{ContentsAsked, BodiesAsked};
 

@@ -1,6 +1,5 @@
 // What C asks of stretch books: an entry of a book, its count, and the rank of its arrangement.
 use crate::answer::pack;
-ghost use mathlib.Core.Path.{_≡_};
 ghost use Rattle.limpet.specs.Answer.{Returns, Leaves};
 ghost use Rattle.limpet.specs.Calls.{bookLeaves, bookCountReturns, bookRankReturns};
 

@@ -5,7 +5,6 @@ use mathlib.Core.Bool.{Bool, true, false}
 use mathlib.Core.List.{List, _++_}
 use Prim.Native.Nat.{ℕ, suc, _+_, _-_, _≤_, _<_}
 use native.Mathlib.Omega.{arith}
-use lib.Dec.{eqb}
 use lib.ListN.{length, take, drop}
 use lib.Seq.{getD-take}
 use Rattle.rows.specs.Row.{at, row, front}
@@ -19,7 +18,7 @@ use Rattle.sizes.specs.Refusal.{refuses, unlessRefused}
 use Rattle.sizes.specs.Sizes.{sizesVerdict}
 use Rattle.sizes.proofs.Refusals.{both-fine, no-fault, was-fine, refused-number, done-number}
 use Rattle.sizes.proofs.Weights.{permitted}
-use Rattle.arrangement.specs.Check.{badModule, repeated, badSetting, slotsVerdict}
+use Rattle.arrangement.specs.Check.{slotsVerdict}
 use Rattle.arrangement.specs.Flip.{source, flippedModules, flippedSettings, Flippable, flipLengthVerdict}
 use Rattle.arrangement.proofs.Flips.{source-lt}
 use Rattle.arrangement.proofs.Validity.{valid, valid-ext, slots-ext}

@@ -6,7 +6,6 @@ use native.Mathlib.Omega.{arith}
 use lib.ListN.{length}
 use Rattle.rows.specs.Row.{at}
 use Rattle.sizes.specs.declared.Verdict.the-variants.{Fine}
-use Rattle.sizes.specs.Sizes.{Permitted}
 use Rattle.sizes.proofs.Refusals.{was-fine}
 use Rattle.book.specs.Format.{formatOne, entryPlace}
 use Rattle.book.specs.Read.{entriesOf, nOf, kOf, expected, firstOf, bodyVerdict}

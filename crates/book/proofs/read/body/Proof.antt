@@ -3,7 +3,6 @@ use mathlib.Core.Path.{_∙_}
 use native.Mathlib.Omega.{arith}
 use Rattle.book.specs.Format.{entryPlace}
 use Rattle.book.proofs.Checks.{entry-asked, offset-read}
-use borrow.Author.Needs.{needs}
 use Rattle.book.proofs.read.body.Statement.{statement}
 use Rattle.book.proofs.read.body.Tie as tie
 

@@ -2,7 +2,6 @@
 use native.Mathlib.Omega.{arith}
 use Rattle.book.specs.Format.{entryPlace}
 use Rattle.book.proofs.Checks.{entry-asked, count-read}
-use borrow.Author.Needs.{needs}
 use Rattle.book.proofs.read.count.Statement.{statement}
 use Rattle.book.proofs.read.count.Tie as tie
 

@@ -1,14 +1,10 @@
 -- `book::read::rank` meets its contract: the arrangement is written into the first n places of its rows, and its rank depends on those
 -- alone. Assumes nothing.
-use mathlib.Core.Path.{_≡_, refl, sym, _∙_, ap₂}
-use native.Mathlib.Omega.{arith}
-use Rattle.sizes.specs.Sizes.{Permitted}
-use Rattle.arrangement.specs.Arrangement.{Valid}
+use mathlib.Core.Path.{sym, _∙_}
 use Rattle.arrangement.proofs.Validity.{valid-ext}
 use Rattle.order.specs.Rank.{rank}
 use Rattle.order.proofs.Ranks.{rank-ext}
-use Rattle.book.specs.Format.{formatOne}
-use Rattle.book.specs.Read.{rankOf, modulesOf, settingsOf}
+use Rattle.book.specs.Read.{rankOf}
 use Rattle.book.proofs.Checks.{entry-asked, lent-length, written-long, written-taken, written-at}
 use borrow.Author.Needs.{needs}
 use Rattle.book.proofs.read.rank.Statement.{statement}

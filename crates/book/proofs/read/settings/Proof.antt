@@ -3,7 +3,6 @@ use Prim.Native.Nat.{_+_}
 use native.Mathlib.Omega.{arith}
 use Rattle.book.specs.Format.{entryPlace}
 use Rattle.book.proofs.Checks.{entry-asked, k-read}
-use borrow.Author.Needs.{needs}
 use Rattle.book.proofs.read.settings.Statement.{statement}
 use Rattle.book.proofs.read.settings.Tie as tie
 

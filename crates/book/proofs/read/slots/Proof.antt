@@ -1,7 +1,6 @@
 -- `book::read::slots` meets its contract: the byte is where the entry begins. Assumes nothing.
 use native.Mathlib.Omega.{arith}
 use Rattle.book.proofs.Checks.{entry-asked, n-read}
-use borrow.Author.Needs.{needs}
 use Rattle.book.proofs.read.slots.Statement.{statement}
 use Rattle.book.proofs.read.slots.Tie as tie
 
