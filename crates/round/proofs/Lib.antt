@@ -3,3 +3,4 @@
 pub mod Lists
 pub mod Listing
 pub mod Walks
+pub mod Worked

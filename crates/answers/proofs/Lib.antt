@@ -1,0 +1,3 @@
+-- `Calls` has the calls from C, and `Values` those from Rattle.
+pub mod Calls
+pub mod Values
