@@ -20,13 +20,13 @@
  *    then E entries of 14 bytes each:
  *      1 byte     n
  *      1 byte     k
- *      4 bytes    where the entry's body begins, counted from byte 0; the least byte first
+ *      4 bytes    the offset of the entry's body, counted from byte 0; the least byte first
  *      8 bytes    the count, 1 to T; the least byte first
  *    then E bodies, in the order of the entries:
  *      n bytes    the first arrangement of the stretch, slot 1 first: setting * 32 + module
  *
- * The first body begins at 2 + 14 * E, each other where the one before it ends, and the book ends with the
- * last. Entries are counted from 1.
+ * The expected offset is 2 + 14 * E for the first entry, and for each other the one before it plus that
+ * entry's n: bodies stand without gaps. The book ends with the last. Entries are counted from 1.
  *
  * The caller's duty, which no check can see: a buffer is lent as a pointer and then its length, has the
  * length passed with it, and overlaps no other buffer lent to the same call. A pointer may be NULL only
@@ -51,7 +51,7 @@
  *   12  a pair has a module outside 1..n, the same module twice or a setting of k or more
  *   13  a book ends before its contents do
  *   14  a book's format isn't 1, or its number of entries is 0 or above 64
- *   15  an entry's body isn't said to begin where it must, or its count is 0 or above T
+ *   15  an entry's offset isn't the expected one, or its count is 0 or above T
  *   16  a book's length isn't the end of its last body
  *   18  the entry asked for is 0 or above E
  *

@@ -3,11 +3,12 @@
 
 #include "arrangements.h"
 #include "reference.h"
+#include "reference_stretch.h"
 
 #include <inttypes.h>
 #include <stdio.h>
 
-enum { N, K, RANK, COUNT, NUMBERS, MOST_SLOTS = 20, MOST_LISTED = 65536 };
+enum { N, K, RANK, COUNT, NUMBERS, MOST_SLOTS = 20 };
 
 /* A number as 01 has it; `at` is left at the first byte that is no digit. */
 static bool take_number(const char **at, const char *end, uint64_t *number)
@@ -29,17 +30,6 @@ static bool take_line(const char *at, const char *end, uint64_t numbers[NUMBERS]
         if (!take_number(&at, end, &numbers[i]) || at == end || *at++ != (i == COUNT ? '\n' : ' '))
             return false;
     return at == end;
-}
-
-/* 1, 2, 3, 8 and 11, or 0. */
-static uint64_t refusal_of(const uint64_t numbers[NUMBERS])
-{
-    const uint64_t answer = reference_round(numbers[N], numbers[K]);
-    if (answer != 0)
-        return answer;
-    if (numbers[RANK] >= reference_round_total(numbers[N], numbers[K]))
-        return 8;
-    return numbers[COUNT] > MOST_LISTED ? 11 : 0;
 }
 
 static char *put_arrangement(char *at, size_t n, size_t k, uint64_t rank)
@@ -66,8 +56,10 @@ static char *put_listing(char *at, const uint64_t numbers[NUMBERS])
 size_t reference_listing(const char *input, size_t length, char out[LISTING_MOST])
 {
     uint64_t numbers[NUMBERS];
-    const uint64_t number = take_line(input, input + length, numbers) ? refusal_of(numbers) : 17;
-    if (number != 0)
-        return (size_t)sprintf(out, "refused %" PRIu64 "\n", number);
+    uint64_t answer = refused(17, 0);
+    if (take_line(input, input + length, numbers))
+        answer = reference_stretch(numbers[N], numbers[K], numbers[RANK], numbers[COUNT]);
+    if (answer != 0)
+        return (size_t)sprintf(out, "refused %" PRIu64 "\n", answer & 0xff);
     return (size_t)(put_listing(out, numbers) - out);
 }

@@ -3,10 +3,11 @@
 
 #include "reference.h"
 #include "reference_board.h"
+#include "reference_stretch.h"
 
 #include <stdbool.h>
 
-enum { DONE = 0, MOST_SLOTS = 20, MOST_COUNTED = 65536 };
+enum { DONE = 0, MOST_SLOTS = 20 };
 
 static bool is_bad_pair(size_t n, size_t k, size_t v, size_t c, size_t w, size_t e)
 {
@@ -27,13 +28,9 @@ static bool stands(size_t n, const uint8_t *modules, const uint8_t *settings, si
 static uint64_t check_pair(size_t n, size_t k, uint64_t rank, uint64_t t, size_t v, size_t c, size_t w,
                            size_t e)
 {
-    const uint64_t answer = reference_round(n, k);
+    const uint64_t answer = reference_stretch(n, k, rank, t);
     if (answer != DONE)
         return answer;
-    if (rank >= reference_round_total(n, k))
-        return refused(8, 0);
-    if (t > MOST_COUNTED)
-        return refused(11, 0);
     return is_bad_pair(n, k, v, c, w, e) ? refused(12, 0) : DONE;
 }
 
