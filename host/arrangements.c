@@ -4,6 +4,7 @@
 #include "reference.h"
 
 #include <stdio.h>
+#include <string.h>
 
 const char *const round_of_two[TOTAL_OF_TWO] = {"1:0 2:0", "1:1 2:0", "2:1 1:0", "2:0 1:0",
                                                 "1:1 2:1", "1:0 2:1", "2:0 1:1", "2:1 1:1"};
@@ -89,13 +90,19 @@ void make_flip(struct asked *asked, size_t j)
     reference_flip(n, asked->k, j, asked->lent[MODULES].bytes, n, asked->lent[SETTINGS].bytes, n);
 }
 
+void scribble_bytes(uint8_t *bytes, size_t length)
+{
+    uint64_t word;
+    for (; length >= sizeof word; bytes += sizeof word, length -= sizeof word) {
+        word = draw_word();
+        memcpy(bytes, &word, sizeof word);
+    }
+    word = draw_word();
+    memcpy(bytes, &word, length);
+}
+
 void scribble(struct asked *asked)
 {
-    uint64_t drawn = 0;
     for (struct row *row = asked->lent; row < asked->lent + ROWS; row++)
-        for (size_t i = 0; i < ROW_MOST; i++, drawn >>= 8) {
-            if (i % sizeof drawn == 0)
-                drawn = draw(UINT64_MAX);
-            row->bytes[i] = (uint8_t)drawn;
-        }
+        scribble_bytes(row->bytes, ROW_MOST);
 }

@@ -33,7 +33,8 @@ size_t flip_out_of(size_t n, size_t k, uint64_t rank);
 /* Makes the reference's flip of length j on an arrangement. */
 void make_flip(struct asked *asked, size_t j);
 
-/* Puts random bytes into every place of the rows. */
+/* Puts random bytes into as many places, and into every place of the rows. */
+void scribble_bytes(uint8_t *bytes, size_t length);
 void scribble(struct asked *asked);
 
 #endif

@@ -6,6 +6,7 @@
 #include <string.h>
 
 enum { HEAD = 2, OFFSET_AT = 2, OFFSET_LENGTH = 4, COUNT_AT = 6, COUNT_LENGTH = 8, SETTING_WEIGHT = 32 };
+enum { FEW_ENTRIES = 4 };
 
 size_t entry_at(size_t entry)
 {
@@ -110,14 +111,16 @@ struct asked asked_for(const struct book *book, size_t entry)
     return asked;
 }
 
+static struct book lent_book; /* by random_book */
+
 struct asked random_book(size_t n, size_t k)
 {
-    static struct book book;
-    book = book_of(1 + draw(LIMPET_MOST_ENTRIES));
-    const size_t entry = 1 + draw(book.entries);
-    book.stretches[entry - 1] = stretch_of_size(n, k);
-    write_book(&book);
-    return asked_for(&book, entry);
+    lent_book.entries = 1 + draw(draw(8) == 0 ? LIMPET_MOST_ENTRIES : FEW_ENTRIES);
+    const size_t entry = 1 + draw(lent_book.entries);
+    for (size_t i = 0; i < lent_book.entries; i++)
+        lent_book.stretches[i] = i == entry - 1 ? stretch_of_size(n, k) : stretch_of_any_size();
+    write_book(&lent_book);
+    return asked_for(&lent_book, entry);
 }
 
 /* In a book of as many entries of one size. */
@@ -245,4 +248,23 @@ void spoil_asked(struct asked *asked, enum fault fault, size_t entries)
         asked->argument = beyond(draw(BEYOND), asked->argument, entries);
     else if (fault == BAD_LENGTH)
         *length = draw(2) == 0 ? draw(asked->n) : asked->n + 1 + draw(LIMPET_MOST_SLOTS);
+}
+
+static bool can_have(const struct stretch *stretch, enum fault fault)
+{
+    return (fault != MODULE_TWICE || stretch->n > 1) &&
+           (fault != BAD_SETTING || stretch->k < LIMPET_MOST_SETTINGS);
+}
+
+void spoil_random_book(const struct call *call, struct asked *asked)
+{
+    (void)call;
+    for (size_t fault = FAULTS; fault-- > 0;) {
+        const size_t entry = 1 + draw(lent_book.entries);
+        if (draw(8) != 0 || !can_have(&lent_book.stretches[entry - 1], (enum fault)fault))
+            continue;
+        spoil_book(&lent_book, (enum fault)fault, entry);
+        spoil_asked(asked, (enum fault)fault, lent_book.entries);
+    }
+    asked->book.length = lent_book.length;
 }

@@ -40,8 +40,8 @@ struct book book_of(size_t entries);
 struct asked asked_for(const struct book *book, size_t entry);
 
 /*
- * Asks for an entry of this size: in a random book of 1 to 64 entries, in a book of one, and in a book of 64
- * of the same size. The next book is written over it.
+ * Asks for an entry of this size: in a random book of 1 to 64 entries, most often few, in a book of one, and
+ * in a book of 64 of the same size. The next book is written over it.
  */
 struct asked random_book(size_t n, size_t k);
 struct asked book_of_one(size_t n, size_t k);
@@ -81,5 +81,8 @@ bool is_of_body(enum fault fault);
  */
 void spoil_book(struct book *book, enum fault fault, size_t entry);
 void spoil_asked(struct asked *asked, enum fault fault, size_t entries);
+
+/* Makes each of the faults or leaves it out, at random, in what random_book answered last. */
+void spoil_random_book(const struct call *call, struct asked *asked);
 
 #endif

@@ -8,7 +8,7 @@
 #include <stdio.h>
 #include <string.h>
 
-enum { GUARD = 32, FAILURES_PRINTED = 10, BYTES_PRINTED = 24, BOOK_PRINTED = 64, TEXT_PRINTED = 150 };
+enum { FAILURES_PRINTED = 10, BYTES_PRINTED = 24, BOOK_PRINTED = 64, TEXT_PRINTED = 150 };
 
 static unsigned passed, failed;
 static unsigned long failures; /* of the running test */
@@ -27,6 +27,7 @@ void run_tests(const struct call *call, const struct test *tests, size_t count)
     for (const struct test *test = tests; test < tests + count; test++) {
         failures = 0;
         random_state = 0;
+        lend_at(BEFORE_PAGE);
         if (test->once != NULL)
             test->once(call);
         else
@@ -42,12 +43,24 @@ int end_of_tests(void)
     return failed == 0 ? 0 : 1;
 }
 
-uint64_t draw(uint64_t below)
+bool is_plain(const struct call *call)
+{
+    return call->told_by != NULL;
+}
+
+uint64_t draw_word(void)
 {
     random_state += 0x9e3779b97f4a7c15;
     uint64_t mixed = (random_state ^ random_state >> 30) * 0xbf58476d1ce4e5b9;
     mixed = (mixed ^ mixed >> 27) * 0x94d049bb133111eb;
-    return (mixed ^ mixed >> 31) % below;
+    return mixed ^ mixed >> 31;
+}
+
+/* The high half of the product, which takes less time than a remainder. */
+uint64_t draw(uint64_t below)
+{
+    __extension__ typedef unsigned __int128 wide;
+    return (uint64_t)((wide)draw_word() * below >> 64);
 }
 
 size_t beyond(size_t which, size_t good, size_t most)
@@ -66,49 +79,19 @@ uint64_t rank_beyond(size_t which, uint64_t good, uint64_t total)
     return all[which];
 }
 
-/* A lent buffer between guards, one right before its first byte and one right behind its last. */
-struct lent {
-    uint8_t room[GUARD + ROW_MOST + GUARD];
-};
-
-static uint8_t room_of_book[GUARD + BOOK_ROOM + GUARD];
-
-/* No guard byte is a module or a setting. */
-static uint8_t guard_byte(size_t i)
+/* Reads a lent buffer back into its row; false where a byte beside it was written. */
+static bool take_back(size_t room, const uint8_t *lent, struct row *row)
 {
-    return (uint8_t)(0x80 | i * 37);
+    if (row->length > 0)
+        memcpy(row->bytes, lent, row->length);
+    return are_guards_whole(room, row->length);
 }
 
-/* Where there are no bytes, NULL is lent. */
-static uint8_t *lend(uint8_t *room, const uint8_t *bytes, size_t length)
+/* False where the lent book was written, or a byte beside it. */
+static bool is_book_whole(const uint8_t *lent, struct bytes book)
 {
-    for (size_t i = 0; i < GUARD; i++) {
-        room[i] = guard_byte(i);
-        room[GUARD + length + i] = guard_byte(GUARD + i);
-    }
-    return length == 0 ? NULL : memcpy(room + GUARD, bytes, length);
-}
-
-static bool are_guards_whole(const uint8_t *room, size_t length)
-{
-    for (size_t i = 0; i < GUARD; i++)
-        if (room[i] != guard_byte(i) || room[GUARD + length + i] != guard_byte(GUARD + i))
-            return false;
-    return true;
-}
-
-/* Reads a lent buffer back into its row; false where a guard was written. */
-static bool take_back(const struct lent *lent, struct row *row)
-{
-    memcpy(row->bytes, lent->room + GUARD, row->length);
-    return are_guards_whole(lent->room, row->length);
-}
-
-/* False where the lent book was written, or a guard. */
-static bool is_book_whole(struct bytes book)
-{
-    return are_guards_whole(room_of_book, book.length) &&
-           (book.length == 0 || memcmp(room_of_book + GUARD, book.at, book.length) == 0);
+    return are_guards_whole(BOOK, book.length) &&
+           (book.length == 0 || memcmp(lent, book.at, book.length) == 0);
 }
 
 static uint64_t apply(const struct function *function, const struct asked *asked, const uint8_t *book,
@@ -154,6 +137,17 @@ static void print_rows(const struct row *rows)
     printf("\n");
 }
 
+static void print_asked(const struct call *call, const struct asked *asked)
+{
+    printf("  asked     %s n=%zu k=%zu argument=%zu", call->name, asked->n, asked->k, asked->argument);
+    if (call->library.counting != NULL)
+        printf(" count=%" PRIu64 " pair=%zu:%zu,%zu:%zu", asked->count, asked->pair.v, asked->pair.c,
+               asked->pair.w, asked->pair.e);
+    if (asked->book.length > 0)
+        print_bytes(asked->book.at, asked->book.length, BOOK_PRINTED);
+    print_rows(asked->lent);
+}
+
 /* Counts a failure where the two differ; the first few of a test are printed. */
 static void hold(const struct call *call, const struct asked *asked, struct outcome came,
                  struct outcome known)
@@ -163,13 +157,7 @@ static void hold(const struct call *call, const struct asked *asked, struct outc
         same = same && memcmp(came.left[i].bytes, known.left[i].bytes, asked->lent[i].length) == 0;
     if (same || ++failures > FAILURES_PRINTED)
         return;
-    printf("  asked     %s n=%zu k=%zu argument=%zu", call->name, asked->n, asked->k, asked->argument);
-    if (call->library.counting != NULL)
-        printf(" count=%" PRIu64 " pair=%zu:%zu,%zu:%zu", asked->count, asked->pair.v, asked->pair.c,
-               asked->pair.w, asked->pair.e);
-    if (asked->book.length > 0)
-        print_bytes(asked->book.at, asked->book.length, BOOK_PRINTED);
-    print_rows(asked->lent);
+    print_asked(call, asked);
     printf("  came      answer 0x%" PRIx64, came.answer);
     print_rows(came.left);
     printf("  expected  answer 0x%" PRIx64, known.answer);
@@ -177,21 +165,28 @@ static void hold(const struct call *call, const struct asked *asked, struct outc
     printf("%s", came.guards_whole ? "" : "  a byte beside a lent buffer or of a book was written\n");
 }
 
+void expect_that(bool holds, const struct call *call, const struct asked *asked, const char *what)
+{
+    if (holds || ++failures > FAILURES_PRINTED)
+        return;
+    print_asked(call, asked);
+    printf("  expected  %s\n", what);
+}
+
 uint64_t ask(const struct call *call, struct asked *asked)
 {
     struct asked came = *asked, known = *asked;
-    struct lent lent[ROWS];
     uint8_t *for_library[ROWS], *for_reference[ROWS];
     for (size_t i = 0; i < ROWS; i++) {
-        for_library[i] = lend(lent[i].room, asked->lent[i].bytes, asked->lent[i].length);
+        for_library[i] = lend(i, asked->lent[i].bytes, asked->lent[i].length);
         for_reference[i] = known.lent[i].bytes;
     }
-    const uint8_t *book = lend(room_of_book, asked->book.at, asked->book.length);
+    const uint8_t *book = lend(BOOK, asked->book.at, asked->book.length);
     const uint64_t answer = apply(&call->library, asked, book, for_library);
     const uint64_t known_answer = apply(&call->reference, asked, asked->book.at, for_reference);
-    bool guards_whole = is_book_whole(asked->book);
+    bool guards_whole = is_book_whole(book, asked->book);
     for (size_t i = 0; i < ROWS; i++)
-        guards_whole = take_back(&lent[i], &came.lent[i]) && guards_whole;
+        guards_whole = take_back(i, for_library[i], &came.lent[i]) && guards_whole;
     hold(call, asked, (struct outcome){answer, guards_whole, came.lent},
          (struct outcome){known_answer, true, known.lent});
     *asked = came;
@@ -246,5 +241,5 @@ void expect_text(struct text asked, struct text came, struct text known)
 
 void expect_refused(const struct call *call, const struct asked *asked, uint64_t number, uint64_t place)
 {
-    expect(call, asked, call->plain ? 0 : refused(number, place), asked);
+    expect(call, asked, is_plain(call) ? 0 : refused(number, place), asked);
 }

@@ -6,6 +6,7 @@
 #define TEST_H
 
 #include "program.h"
+#include "rooms.h"
 
 #include <stdbool.h>
 #include <stddef.h>
@@ -13,16 +14,18 @@
 
 #define COUNT_OF(array) (sizeof(array) / sizeof((array)[0]))
 
-/* The rows that a call is lent. ROW_MOST has room for a length whose low byte alone is right. */
-enum { MODULES, SETTINGS, ROWS, COUNTERS = MODULES, POINTERS, ROW_MOST = 300, REFUSALS_MOST = 14 };
+/* The rows that a call is lent, each from a room of its own, and the book from one. */
+enum { MODULES, SETTINGS, ROWS, COUNTERS = MODULES, POINTERS, BOOK = ROWS };
+
+/* ROW_MOST has room for a length whose low byte alone is right. */
+enum { ROW_MOST = 300, REFUSALS_MOST = 14 };
 
 struct row {
     size_t length;
     uint8_t bytes[ROW_MOST];
 };
 
-/* Bytes that are lent to be read and never written: a book. BOOK_ROOM is the most that is lent. */
-enum { BOOK_ROOM = 1 << 17 };
+/* Bytes that are lent to be read and never written: a book. */
 struct bytes {
     size_t length;
     const uint8_t *at;
@@ -59,10 +62,18 @@ struct call {
     const char *name;
     unsigned refusals[REFUSALS_MOST];
     struct function library, reference;
-    bool plain; /* answers a plain number, which is 0 where it refuses */
+
+    /* Set for one that answers a plain number, which is 0 where it refuses: the call that tells the refusal. */
+    const struct call *told_by;
 
     /* What the call takes where it takes n and k, at random; for any n of 1..20 and k of 1..8. */
     struct asked (*fair)(size_t n, size_t k);
+
+    /* Puts some of the call's faults, any or none, into what is fair. */
+    void (*spoil)(const struct call *call, struct asked *asked);
+
+    /* Whether a call that is done can have this value, or this plain number. */
+    bool (*is_value)(const struct asked *asked, uint64_t value);
 
     size_t longer[ROWS]; /* by how many bytes each row is longer than n */
 };
@@ -74,13 +85,16 @@ struct test {
     void (*at_every_size)(const struct call *call, size_t n, size_t k);
 };
 
+bool is_plain(const struct call *call);
+
 void run_tests(const struct call *call, const struct test *tests, size_t count);
 
 /* Prints how many tests passed and failed, and answers the program's exit status. */
 int end_of_tests(void);
 
-/* A number below `below`, from a stream that begins anew with each test. */
+/* A number below `below`, or any of 64 bits, from a stream that begins anew with each test. */
 uint64_t draw(uint64_t below);
+uint64_t draw_word(void);
 
 /* The numbers that may stand for `good`, one of 1..most, and are refused; several have its low bits. */
 enum { BEYOND = 10 };
@@ -96,6 +110,9 @@ uint64_t ask(const struct call *call, struct asked *asked);
 /* Asks, and holds answer and buffers also to those that the test itself knows. */
 void expect(const struct call *call, const struct asked *asked, uint64_t answer, const struct asked *left);
 void expect_refused(const struct call *call, const struct asked *asked, uint64_t number, uint64_t place);
+
+/* Holds a call to what is said of it in words. */
+void expect_that(bool holds, const struct call *call, const struct asked *asked, const char *what);
 
 /* Holds a line of text to the one that is known; either is NULL where there is none. */
 void expect_line(const char *came, const char *known);
@@ -115,5 +132,6 @@ void book_tests(void);
 void handover_tests(void);
 void station_tests(void);
 void listing_tests(void);
+void totality_tests(void);
 
 #endif

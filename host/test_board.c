@@ -32,7 +32,7 @@ static void expect_stepped(const struct call *call, const struct asked *known)
 
 static void expect_read(const struct call *call, const struct asked *known)
 {
-    expect(call, known, call->plain ? known->argument : 0, known);
+    expect(call, known, is_plain(call) ? known->argument : 0, known);
 }
 
 /* Asks any of the calls, knowing that the board has the rank that is its argument. */

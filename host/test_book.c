@@ -16,7 +16,7 @@ static void expect_entry(const struct call *call, const struct book *book, size_
     const size_t n = stretch->n, k = stretch->k;
     const struct asked asked = asked_for(book, entry);
     struct asked left = asked;
-    if (call->plain) {
+    if (is_plain(call)) {
         expect(call, &asked, call == &book_count_call ? stretch->count : stretch->rank, &left);
         return;
     }
@@ -338,7 +338,7 @@ static struct fault_at fault_of_number(size_t number, size_t entries)
 static void two_faults(const struct call *call)
 {
     static const size_t tried[] = {1, 2, 3, 7, LIMPET_MOST_ENTRIES};
-    const size_t faults = call->plain ? BAD_LENGTH : FAULTS; /* a plain call is lent no row */
+    const size_t faults = is_plain(call) ? BAD_LENGTH : FAULTS; /* a plain call is lent no row */
     for (size_t i = 0; i < COUNT_OF(tried); i++)
         for (size_t a = 0; a < faults * PLACES; a++)
             for (size_t b = 0; b < faults * PLACES; b++) {

@@ -18,5 +18,6 @@ int main(void)
     handover_tests();
     station_tests();
     listing_tests();
+    totality_tests();
     return end_of_tests();
 }

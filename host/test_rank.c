@@ -14,7 +14,7 @@ static void expect_rank(const struct call *call, const struct asked *known)
     struct asked asked = *known;
     if (call == &unrank_call)
         scribble(&asked);
-    expect(call, &asked, call->plain ? known->argument : 0, known);
+    expect(call, &asked, is_plain(call) ? known->argument : 0, known);
 }
 
 static void expect_rank_of(const struct call *call, size_t k, uint64_t rank, const char *slots)
