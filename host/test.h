@@ -133,5 +133,6 @@ void handover_tests(void);
 void station_tests(void);
 void listing_tests(void);
 void totality_tests(void);
+void page_tests(void);
 
 #endif

@@ -19,5 +19,6 @@ int main(void)
     station_tests();
     listing_tests();
     totality_tests();
+    page_tests();
     return end_of_tests();
 }
