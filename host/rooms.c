@@ -18,17 +18,28 @@ void lend_at(enum placement where)
     placement = where;
 }
 
+static void end_unless(bool is_done)
+{
+    if (is_done)
+        return;
+    perror("the rooms for what is lent");
+    exit(1);
+}
+
+/* Bytes of the system's, zeros at first. None of them takes memory before it is written. */
+static uint8_t *mapped(size_t size, int protection)
+{
+    uint8_t *const bytes = mmap(NULL, size, protection, MAP_PRIVATE | MAP_ANONYMOUS, -1, 0);
+    end_unless(bytes != MAP_FAILED);
+    return bytes;
+}
+
 /* A page, then each room and a page behind it. */
 static uint8_t *make_rooms(void)
 {
-    uint8_t *const all =
-        mmap(NULL, PAGE + ROOMS * (ROOM + PAGE), PROT_NONE, MAP_PRIVATE | MAP_ANONYMOUS, -1, 0);
+    uint8_t *const all = mapped(PAGE + ROOMS * (ROOM + PAGE), PROT_NONE);
     for (size_t room = 0; room < ROOMS; room++)
-        if (all == MAP_FAILED ||
-            mprotect(all + PAGE + room * (ROOM + PAGE), ROOM, PROT_READ | PROT_WRITE) != 0) {
-            perror("the rooms for what is lent");
-            exit(1);
-        }
+        end_unless(mprotect(all + PAGE + room * (ROOM + PAGE), ROOM, PROT_READ | PROT_WRITE) == 0);
     return all;
 }
 
@@ -60,6 +71,17 @@ uint8_t *lend(size_t room, const uint8_t *bytes, size_t length)
     if (length == 0)
         return placement == BEFORE_PAGE ? NULL : lent;
     return memcpy(lent, bytes, length);
+}
+
+uint8_t *lend_far(size_t room, const uint8_t *bytes, size_t length)
+{
+    static uint8_t *far[ROOMS];
+    if (far[room] == NULL)
+        far[room] = mapped(ROOM + FAR_MORE, PROT_READ);
+    end_unless(mprotect(far[room], ROOM, PROT_READ | PROT_WRITE) == 0);
+    memcpy(far[room], bytes, length);
+    end_unless(mprotect(far[room], ROOM, PROT_READ) == 0);
+    return far[room];
 }
 
 bool are_guards_whole(size_t room, size_t length)

@@ -20,6 +20,10 @@ void lend_at(enum placement placement);
 /* Puts bytes into a room and answers where they are. No bytes are NULL before a page, and not behind one. */
 uint8_t *lend(size_t room, const uint8_t *bytes, size_t length);
 
+/* The same where FAR_MORE bytes more are lent behind these; none of all that can be written. */
+#define FAR_MORE ((size_t)1 << 32)
+uint8_t *lend_far(size_t room, const uint8_t *bytes, size_t length);
+
 /* Whether the guard bytes beside what was lent are as they were made. */
 bool are_guards_whole(size_t room, size_t length);
 

@@ -193,6 +193,23 @@ uint64_t ask(const struct call *call, struct asked *asked)
     return answer;
 }
 
+static uint8_t *lend_near_or_far(size_t room, const uint8_t *bytes, size_t *length, bool is_far)
+{
+    uint8_t *const lent = (is_far ? lend_far : lend)(room, bytes, *length);
+    *length += is_far ? FAR_MORE : 0;
+    return lent;
+}
+
+uint64_t ask_far(const struct call *call, const struct asked *asked, const bool is_far[ROOMS])
+{
+    struct asked far = *asked;
+    uint8_t *rows[ROWS];
+    for (size_t i = 0; i < ROWS; i++)
+        rows[i] = lend_near_or_far(i, asked->lent[i].bytes, &far.lent[i].length, is_far[i]);
+    const uint8_t *book = lend_near_or_far(BOOK, asked->book.at, &far.book.length, is_far[BOOK]);
+    return apply(&call->library, &far, book, rows);
+}
+
 void expect(const struct call *call, const struct asked *asked, uint64_t answer, const struct asked *left)
 {
     struct asked came = *asked;

@@ -107,6 +107,9 @@ uint64_t rank_beyond(size_t which, uint64_t good, uint64_t total);
 /* Makes the call and holds it to the reference. Leaves in `asked` what the call left in the buffers. */
 uint64_t ask(const struct call *call, struct asked *asked);
 
+/* Makes a call that has to refuse: what is lent from these rooms has FAR_MORE bytes more than is asked. */
+uint64_t ask_far(const struct call *call, const struct asked *asked, const bool is_far[ROOMS]);
+
 /* Asks, and holds answer and buffers also to those that the test itself knows. */
 void expect(const struct call *call, const struct asked *asked, uint64_t answer, const struct asked *left);
 void expect_refused(const struct call *call, const struct asked *asked, uint64_t number, uint64_t place);

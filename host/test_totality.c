@@ -9,6 +9,7 @@
 #include "calls.h"
 #include "faults.h"
 #include "limpet.h"
+#include "reference.h"
 
 #include <stdio.h>
 #include <stdlib.h>
@@ -170,6 +171,24 @@ static void anything_behind_a_page(const struct call *call)
     anything(call);
 }
 
+static bool is_lent_rows(const struct call *call)
+{
+    return has_refusal(call, 4);
+}
+
+/* Buffers of a length of which the low 32 bits are right. */
+static void far_lengths(const struct call *call, size_t n, size_t k)
+{
+    for (unsigned rooms = 1; rooms < 1u << ROOMS; rooms++) {
+        const bool is_far[ROOMS] = {rooms & 1, rooms & 2, rooms & 4};
+        const struct asked asked = call->fair(n, k);
+        if (is_far[BOOK] ? !is_lent_book(call) : !is_lent_rows(call))
+            continue;
+        const uint64_t known = is_plain(call) ? 0 : refused(is_far[BOOK] ? 16 : 4, 0);
+        expect_that(ask_far(call, &asked, is_far) == known, call, &asked, "refused for 2^32 bytes more");
+    }
+}
+
 /* Whether a name of limpet.h, which a parenthesis ends, is that of the call. */
 static bool is_named(const struct call *call, const char *name)
 {
@@ -212,7 +231,13 @@ void totality_tests(void)
         {"anything, lent right before a guard page", .once = anything},
         {"anything, lent right behind a guard page", .once = anything_behind_a_page},
     };
+    static const struct test of_lent[] = {
+        {"4 for rows, and 16 for a book, of 2^32 bytes more", .at_every_size = far_lengths},
+    };
     run_tests(&all, of_all, COUNT_OF(of_all));
-    for (size_t i = 0; i < CALLS; i++)
+    for (size_t i = 0; i < CALLS; i++) {
         run_tests(all_calls[i], of_each, COUNT_OF(of_each));
+        if (is_lent_rows(all_calls[i]) || is_lent_book(all_calls[i]))
+            run_tests(all_calls[i], of_lent, COUNT_OF(of_lent));
+    }
 }
