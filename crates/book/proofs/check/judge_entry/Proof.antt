@@ -5,6 +5,8 @@ use mathlib.Core.Path.{_≡_, sym, _∙_, ap₂}
 use native.Mathlib.Omega.{arith}
 use lib.ListN.{length}
 use Rattle.rows.proofs.Cases.{below-range, above-range, in-range}
+use Rattle.sizes.specs.declared.Verdict.{Verdict}
+use Rattle.sizes.specs.Refusal.{first}
 use Rattle.sizes.specs.Sizes.{weight, sizesVerdict}
 use Rattle.sizes.proofs.Refusals.{stops, goes-on, was-fine, last-faulty, last-faultless}
 use Rattle.sizes.proofs.Weights.{permitted}
@@ -64,6 +66,12 @@ number-in-requires : tie.Need-number-in-requires
 number-in-requires c κs =
     let here = c .before .before .before .before .before in omega (arith, here .entry-place .ensures, inside here)
 
+-- past the sizes
+sizes-passed : {w later : Verdict} (c : tie.Else1) →
+    let a = c .before .before .before .before .before .before .before .args in
+    w ≡ later → w ≡ first (sizesVerdict (nOf (a .book .now) (a .i)) (kOf (a .book .now) (a .i))) later
+sizes-passed c rest = goes-on (sized (c .before .before)) (c .before .refuses .ensures) (c .if1 .left) rest
+
 offset-is : (c : tie.After-number-in) →
     let a = c .before .before .before .before .before .before .before .before .args in c .number-in .result ≡ offsetOf (a .book .now) (a .i)
 offset-is c = offset-read _ _ (c .before .before .before .before .before .before .entry-place .ensures) (c .number-in .ensures)
@@ -80,8 +88,7 @@ returns-2 : tie.Need-returns-2
 unfolding entryVerdict
 returns-2 c =
     let passed = c .before .before in
-    goes-on (sized (passed .before .before)) (passed .before .refuses .ensures) (passed .if1 .left)
-    (last-faulty 15 (misplaced _ _ _ (λ e. c .if2 .taken (offset-is (c .before) ∙ e ∙ sym (asked (c .before))))))
+    sizes-passed passed (last-faulty 15 (misplaced _ _ _ (λ e. c .if2 .taken (offset-is (c .before) ∙ e ∙ sym (asked (c .before))))))
 
 add-number-in-2 : tie.Need-add-number-in-2
 unfolding entryPlace
@@ -103,8 +110,7 @@ unfolding entryVerdict
 returns-3 c =
     let placed = c .before .before in
     let passed = placed .before .before in
-    goes-on (sized (passed .before .before)) (passed .before .refuses .ensures) (passed .if1 .left)
-    (last-faulty 15 (in-place (offset-right placed) (below-range 1 _ _ (omega (arith, count-is (c .before), c .if3 .taken)))))
+    sizes-passed passed (last-faulty 15 (in-place (offset-right placed) (below-range 1 _ _ (omega (arith, count-is (c .before), c .if3 .taken)))))
 
 total-requires : tie.Need-total-requires
 total-requires c κs =
@@ -124,8 +130,7 @@ returns-4 c =
     let counted = c .before .before .before in
     let placed = counted .before in
     let passed = placed .before .before in
-    goes-on (sized (passed .before .before)) (passed .before .refuses .ensures) (passed .if1 .left)
-    (last-faulty 15 (in-place (offset-right placed)
+    sizes-passed passed (last-faulty 15 (in-place (offset-right placed)
     (above-range 1 _ _ (omega (arith, count-is counted, c .before .before .if3 .left)) (omega (arith, count-is counted, total-is (c .before), c .if4 .taken)))))
 
 returns-5 : tie.Need-returns-5
@@ -134,8 +139,7 @@ returns-5 c =
     let counted = c .before .before .before in
     let placed = counted .before in
     let passed = placed .before .before in
-    goes-on (sized (passed .before .before)) (passed .before .refuses .ensures) (passed .if1 .left)
-    (last-faultless 15 (in-place (offset-right placed)
+    sizes-passed passed (last-faultless 15 (in-place (offset-right placed)
     (in-range 1 _ _ (omega (arith, count-is counted, c .before .before .if3 .left)) (omega (arith, count-is counted, total-is (c .before), c .if4 .left)))))
 
 pub judge-entry-spec : {M : Type 1} → statement M
