@@ -135,6 +135,7 @@ void book_tests(void);
 void handover_tests(void);
 void station_tests(void);
 void listing_tests(void);
+void papers_tests(void);
 void totality_tests(void);
 void page_tests(void);
 

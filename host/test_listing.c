@@ -1,50 +1,20 @@
 /* The tests of the listing: the built program is run, and what it prints is held to the reference's. */
 #include "arrangements.h"
 #include "greedy.h"
+#include "listings.h"
 #include "reference.h"
-#include "reference_listing.h"
-#include "test.h"
 
 #include <inttypes.h>
 #include <stdio.h>
-#include <stdlib.h>
 #include <string.h>
 
-/* A round of at most SMALL arrangements is listed whole. */
-enum { SMALL = 2000, MOST_LISTED = 65536, LINE_MOST = 200, MEGABYTE = 1 << 20, AT_RANDOM = 500 };
-
-/* Holds a run to the reference, and where `known` isn't NULL also to what the test itself knows. */
-static void expect_in_pieces(struct text input, size_t piece, const char *known)
-{
-    static char *const words[] = {LISTING_WORDS};
-    static char expected[LISTING_MOST];
-    const struct run run = run_program(words, input, piece);
-    const struct text by_reference = {reference_listing(input.bytes, input.length, expected), expected};
-    fwrite(run.errors.bytes, 1, run.errors.length, stderr);
-    expect_line(run.status == 0 ? "exit status 0" : "the program failed", "exit status 0");
-    expect_text(input, run.output, by_reference);
-    if (known != NULL)
-        expect_text(input, run.output, text_of(known));
-}
-
-static void expect_listing(struct text input, const char *known)
-{
-    expect_in_pieces(input, 0, known);
-}
+enum { MOST_LISTED = 65536, MEGABYTE = 1 << 20, AT_RANDOM = 500 };
 
 static void expect_number(struct text input, unsigned number)
 {
     char known[LINE_MOST];
     snprintf(known, sizeof known, "refused %u\n", number);
     expect_listing(input, known);
-}
-
-/* The input line of four numbers; the next one is written over it. */
-static struct text line_of(uint64_t n, uint64_t k, uint64_t rank, uint64_t t)
-{
-    static char line[LINE_MOST];
-    snprintf(line, sizeof line, "%" PRIu64 " %" PRIu64 " %" PRIu64 " %" PRIu64 "\n", n, k, rank, t);
-    return text_of(line);
 }
 
 static const char *const example = "walk 2 2 6 3\n"
@@ -66,87 +36,25 @@ static void worked_listings(const struct call *call)
                    "walk 7 1 3653 1\n3653 4 3:0 7:0 6:0 4:0 5:0 1:0 2:0\nnext 3654\n");
 }
 
-/* A listing that the test itself writes, of a whole round from rank 0 on. */
-struct whole {
-    char text[SMALL * LINE_MOST], *end;
-};
-
-static void begin_whole(struct whole *whole, size_t n, size_t k, uint64_t total)
+static void round_of_two_listed(const struct call *call)
 {
-    whole->end = whole->text + sprintf(whole->text, "walk %zu %zu 0 %" PRIu64 "\n", n, k, total);
-}
-
-static void expect_whole(struct whole *whole, size_t n, size_t k)
-{
-    sprintf(whole->end, "next 0\n");
-    expect_listing(line_of(n, k, 0, reference_round_total(n, k)), whole->text);
-}
-
-/*
- * 004, examples 4.1 and 5.1, and 002, examples 3.1 and 4.1, to be read down each column and then to the
- * right: the modules, with a minus for setting 1, and the flip.
- */
-static const char *const printed_of_four[] = {
-    "1 2 3 4 (2)", "4 1 2 3 (2)", "3 4 1 2 (2)", "2 3 4 1 (2)",
-    "2 1 3 4 (3)", "1 4 2 3 (3)", "4 3 1 2 (3)", "3 2 4 1 (3)",
-    "3 1 2 4 (2)", "2 4 1 3 (2)", "1 3 4 2 (2)", "4 2 3 1 (2)",
-    "1 3 2 4 (3)", "4 2 1 3 (3)", "3 1 4 2 (3)", "2 4 3 1 (3)",
-    "2 3 1 4 (2)", "1 2 4 3 (2)", "4 1 3 2 (2)", "3 4 2 1 (2)",
-    "3 2 1 4 (4)", "2 1 4 3 (4)", "1 4 3 2 (4)", "4 3 2 1 (4)",
-};
-static const char *const printed_of_three[] = {
-    "1 2 3 (1)",   "-3 1 2 (1)",  "-2 -3 1 (1)", "-1 -2 -3 (1)", "3 -1 -2 (1)",  "2 3 -1 (1)",
-    "-1 2 3 (2)",  "3 1 2 (2)",   "2 -3 1 (2)",  "1 -2 -3 (2)",  "-3 -1 -2 (2)", "-2 3 -1 (2)",
-    "-2 1 3 (1)",  "-1 -3 2 (1)", "3 -2 1 (1)",  "2 -1 -3 (1)",  "1 3 -2 (1)",   "-3 2 -1 (1)",
-    "2 1 3 (2)",   "1 -3 2 (2)",  "-3 -2 1 (2)", "-2 -1 -3 (2)", "-1 3 -2 (2)",  "3 2 -1 (2)",
-    "-1 -2 3 (1)", "3 -1 2 (1)",  "2 3 1 (1)",   "1 2 -3 (1)",   "-3 1 -2 (1)",  "-2 -3 -1 (1)",
-    "1 -2 3 (2)",  "-3 -1 2 (2)", "-2 3 1 (2)",  "-1 2 -3 (2)",  "3 1 -2 (2)",   "2 -3 -1 (2)",
-    "2 -1 3 (1)",  "1 3 2 (1)",   "-3 2 1 (1)",  "-2 1 -3 (1)",  "-1 -3 -2 (1)", "3 -2 -1 (1)",
-    "-2 -1 3 (3)", "-1 3 2 (3)",  "3 2 1 (3)",   "2 1 -3 (3)",   "1 -3 -2 (3)",  "-3 -2 -1 (3)",
-};
-
-static char *put_printed(char *at, size_t rank, const char *cell)
-{
-    char *rest = NULL;
-    at += sprintf(at, "%zu %ld", rank, strtol(strchr(cell, '(') + 1, NULL, 10));
-    for (; *cell != '('; cell = rest + 1) {
-        const long module = strtol(cell, &rest, 10);
-        at += sprintf(at, " %ld:%d", labs(module), module < 0);
-    }
-    return at + sprintf(at, "\n");
-}
-
-static void expect_printed(size_t n, size_t k, const char *const *cells, size_t count, size_t columns)
-{
-    static struct whole whole;
-    begin_whole(&whole, n, k, count);
-    for (size_t rank = 0, rows = count / columns; rank < count; rank++)
-        whole.end = put_printed(whole.end, rank, cells[rank % rows * columns + rank / rows]);
-    expect_whole(&whole, n, k);
-}
-
-static void printed_listings(const struct call *call)
-{
-    static struct whole whole;
+    static struct listing listing;
     (void)call;
-    expect_printed(4, 1, printed_of_four, COUNT_OF(printed_of_four), 4);
-    expect_printed(3, 2, printed_of_three, COUNT_OF(printed_of_three), 6);
-    begin_whole(&whole, 2, 2, TOTAL_OF_TWO);
-    for (size_t rank = 0; rank < TOTAL_OF_TWO; rank++)
-        whole.end += sprintf(whole.end, "%zu %zu %s\n", rank, 1 + rank % 2, round_of_two[rank]);
-    expect_whole(&whole, 2, 2);
+    begin_listing(&listing, 2, 2, TOTAL_OF_TWO);
+    for (size_t rank = 0; rank < TOTAL_OF_TWO; rank++) {
+        struct asked at = written(2, round_of_two[rank]);
+        at.argument = rank;
+        put_arrangement(&listing, &at, 1 + rank % 2);
+    }
+    expect_written_listing(&listing);
 }
 
-static struct whole greedy;
+static struct listing greedy;
 
 static void put_met(const struct call *call, const struct asked *met)
 {
-    const uint8_t *modules = met->lent[MODULES].bytes, *settings = met->lent[SETTINGS].bytes;
     (void)call;
-    greedy.end += sprintf(greedy.end, "%zu %zu", met->argument, flip_out_of(met->n, met->k, met->argument));
-    for (size_t i = 0; i < met->n; i++)
-        greedy.end += sprintf(greedy.end, " %u:%u", modules[i], settings[i]);
-    greedy.end += sprintf(greedy.end, "\n");
+    put_arrangement(&greedy, met, flip_out_of(met->n, met->k, met->argument));
 }
 
 static void greedy_order(const struct call *call, size_t n, size_t k)
@@ -154,9 +62,9 @@ static void greedy_order(const struct call *call, size_t n, size_t k)
     const uint64_t total = reference_round_total(n, k);
     if (total > SMALL)
         return;
-    begin_whole(&greedy, n, k, total);
+    begin_listing(&greedy, n, k, total);
     greedy_round(call, n, k, put_met);
-    expect_whole(&greedy, n, k);
+    expect_written_listing(&greedy);
 }
 
 static void round_and_more(const struct call *call, size_t n, size_t k)
@@ -364,7 +272,7 @@ void listing_tests(void)
     static const struct call listing = {.name = "listing"};
     static const struct test tests[] = {
         {"the listings that 01 works out", .once = worked_listings},
-        {"the listings that 002 and 004 print", .once = printed_listings},
+        {"the round of n = 2, k = 2 that 01 works out", .once = round_of_two_listed},
         {"the whole greedy round, where T <= 2,000", .at_every_size = greedy_order},
         {"a whole round and three more from any rank, where T <= 2,000", .at_every_size = round_and_more},
         {"t = 0 lists the head and next r", .at_every_size = no_arrangement},

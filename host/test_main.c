@@ -18,6 +18,7 @@ int main(void)
     handover_tests();
     station_tests();
     listing_tests();
+    papers_tests();
     totality_tests();
     page_tests();
     return end_of_tests();
