@@ -98,7 +98,7 @@ static void expect_round(size_t k, const char *const *cells, size_t count, size_
     expect_places(count);
 }
 
-/* 002, example 3.1; 004, example 4.1; and 003, table 1, minimum flips for n = 4, down the columns of one. */
+/* 002, example 3.1; 004, example 4.1; and in one column 003, table 1, minimum flips for n = 4. */
 static const char *const round_of_four[] = {
     "1 2 3 4 (2)", "4 1 2 3 (2)", "3 4 1 2 (2)", "2 3 4 1 (2)",
     "2 1 3 4 (3)", "1 4 2 3 (3)", "4 3 1 2 (3)", "3 2 4 1 (3)",
