@@ -2,10 +2,12 @@
 -- in; the readings of a board and of the listing's input are relations, with one answer by their own theorems. Assumes nothing.
 use Prim.Native.Nat.{ℕ}
 use mathlib.Core.Path.{_≡_, sym, _∙_}
+use mathlib.Core.Bool.{Bool}
 use mathlib.Core.List.{List}
 use Rattle.sizes.specs.declared.Verdict.{Verdict}
+use Rattle.sizes.specs.Refusal.{refuses}
 use Rattle.sizes.specs.Sizes.{sizesVerdict}
-use Rattle.arrangement.specs.Check.{buffersVerdict, lentVerdict}
+use Rattle.arrangement.specs.Check.{lentVerdict}
 use Rattle.arrangement.specs.Flip.{flipVerdict}
 use Rattle.order.specs.Check.{startVerdict, lentRankVerdict}
 use Rattle.board.specs.Read.{Reads as ReadsBoard}
@@ -30,6 +32,9 @@ one-answer : {A : Type 0} {x r s : A} → r ≡ x → s ≡ x → r ≡ s
 one-answer p q = p ∙ sym q
 
 -- ---- the checks
+
+pub one-refuses : (v : Verdict) {r s : Bool} → r ≡ refuses v → s ≡ refuses v → r ≡ s
+one-refuses v p q = one-answer p q
 
 module _ {r s : Verdict} where
   pub one-sizes : (n k : ℕ) → r ≡ sizesVerdict n k → s ≡ sizesVerdict n k → r ≡ s
