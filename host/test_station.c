@@ -392,7 +392,7 @@ static void refused_books(const struct call *call)
         {BAD_K, "2 at entry 2: k is 0 or above 8"},
         {TOO_LARGE, "3 at entry 2: a round of this n and k has more than 2^64 - 1 arrangements"},
         {BAD_ENTRY,
-         "15 at entry 2: its body isn't said to begin where it must, or its count is 0 or too large"},
+         "15 at entry 2: its offset isn't the expected one, or its count is 0 or above T"},
         {BAD_END, "16: the book doesn't end where its last body does"},
         {BAD_MODULE, "5 at entry 2: a module is outside 1..n"},
         {MODULE_TWICE, "6 at entry 2: a module stands twice"},

@@ -150,7 +150,7 @@ static const char *const meanings[] = {
     [10] = "it is no rank's board",
     [13] = "the book ends before its contents do",
     [14] = "the format isn't 1, or the entries aren't 1 to 64",
-    [15] = "its body isn't said to begin where it must, or its count is 0 or too large",
+    [15] = "its offset isn't the expected one, or its count is 0 or above T",
     [16] = "the book doesn't end where its last body does",
     [18] = "the book has no such entry",
 };
