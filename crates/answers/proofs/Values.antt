@@ -1,5 +1,5 @@
--- Each call by value from Rattle that refuses by itself leaves one answer. Most promise an equation with a total function of what came
--- in; the readings of a board and of the listing's input are relations, with one answer by their own theorems. Assumes nothing.
+-- Each call from Rattle that has no `requires` leaves one answer. Most promise an equation with a total function of what came in;
+-- the readings of a board and of the listing's input are relations, with one answer by their own theorems. Assumes nothing.
 use Prim.Native.Nat.{ℕ}
 use mathlib.Core.Path.{_≡_, sym, _∙_}
 use mathlib.Core.Bool.{Bool}
@@ -9,7 +9,7 @@ use Rattle.sizes.specs.Refusal.{refuses}
 use Rattle.sizes.specs.Sizes.{sizesVerdict}
 use Rattle.arrangement.specs.Check.{lentVerdict}
 use Rattle.arrangement.specs.Flip.{flipVerdict}
-use Rattle.order.specs.Check.{startVerdict, lentRankVerdict}
+use Rattle.order.specs.Check.{startVerdict}
 use Rattle.board.specs.Read.{Reads as ReadsBoard}
 use Rattle.board.specs.declared.read.Reading.{Reading}
 use Rattle.board.proofs.Readings.{one-reading}
@@ -45,9 +45,6 @@ module _ {r s : Verdict} where
 
   pub one-flip-check : (n k j : ℕ) (ms ss : List ℕ) → r ≡ flipVerdict n k j ms ss → s ≡ flipVerdict n k j ms ss → r ≡ s
   one-flip-check n k j ms ss p q = one-answer p q
-
-  pub one-rank-check : (n k rank : ℕ) (xs : List ℕ) (more : ℕ) (ys : List ℕ) → r ≡ lentRankVerdict n k rank xs more ys → s ≡ lentRankVerdict n k rank xs more ys → r ≡ s
-  one-rank-check n k rank xs more ys p q = one-answer p q
 
   pub one-start : (n k rank : ℕ) → r ≡ startVerdict n k rank → s ≡ startVerdict n k rank → r ≡ s
   one-start n k rank p q = one-answer p q
@@ -95,8 +92,8 @@ one-moved w p q = one-answer p q
 
 -- ---- the relations
 
-pub one-board : (n k : ℕ) (cs fs : List ℕ) (r s : Reading) → ReadsBoard n k cs fs r → ReadsBoard n k cs fs s → r ≡ s
-one-board n k cs fs r s p q = one-reading n k cs fs r s p q
+pub one-board-reading : (n k : ℕ) (cs fs : List ℕ) (r s : Reading) → ReadsBoard n k cs fs r → ReadsBoard n k cs fs s → r ≡ s
+one-board-reading n k cs fs r s p q = one-reading n k cs fs r s p q
 
 pub one-input : (xs : List ℕ) (r s : Line) → Reads xs r → Reads xs s → r ≡ s
 one-input xs r s p q = one-line xs r s p q

@@ -370,7 +370,7 @@ module _ {format : Format} (sound : Sound format) (xs ys : List ℕ) (bytes-x : 
       let n-is : nOf xs i ≡ nOf ys i = rw (fine, fine-too, here) at (ap (λ a. a .n) a) in
       let k-is : kOf xs i ≡ kOf ys i = rw (fine, fine-too, here) at (ap (λ a. a .k) a) in
       let count-is : countOf xs i ≡ countOf ys i = rw (fine, fine-too, here) at (ap (λ a. a .count) a) in
-      let rank-is : rankOf format xs i ≡ rankOf format ys i = rw (fine, fine-too, here) at (ap (λ a. a .rank-is) a) in
+      let rank-is : rankOf format xs i ≡ rankOf format ys i = rw (fine, fine-too, here) at (ap (λ a. a .start) a) in
       λ j. record { n = n-is j; k = k-is j; rank = rank-is j; count = count-is j }
 
   -- as many entries

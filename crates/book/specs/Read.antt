@@ -106,13 +106,13 @@ unfoldable pub lentEntryVerdict : Format → List ℕ → ℕ → List ℕ → L
 lentEntryVerdict format xs entry ms ss =
     first (askedVerdict format xs entry) (first (lengthVerdict (nOf xs (entry - 1)) ms) (lengthVerdict (nOf xs (entry - 1)) ss))
 
--- what a reading answers of the entry asked for, whose arrangement it writes
+-- what a reading answers of the entry asked for, whose arrangement it writes: n, k, the count, and the start rank
 pub record Answers : Type 0 where
   pub verdict : Verdict
   pub n : ℕ
   pub k : ℕ
   pub count : ℕ
-  pub rank-is : ℕ
+  pub start : ℕ
 
 unfoldable pub answersOf : Format → List ℕ → ℕ → Answers
 answersOf format xs entry =
@@ -122,5 +122,5 @@ answersOf format xs entry =
       n = told (nOf xs (entry - 1));
       k = told (kOf xs (entry - 1));
       count = told (countOf xs (entry - 1));
-      rank-is = told (rankOf format xs (entry - 1));
+      start = told (rankOf format xs (entry - 1));
     }

@@ -10,7 +10,7 @@ ghost use Rattle.sizes.specs.declared.Verdict.the-variants.{Fine};
 ghost use Rattle.book.specs.Format.{formatOne};
 ghost use Rattle.book.specs.Read.{nOf, kOf, countOf, expected, rankOf, modulesOf, settingsOf, askedVerdict};
 
-// n.
+// n, how many slots there are.
 pub fn slots(book: &[u8], entry: usize) -> usize
     requires { ⌜ askedVerdict formatOne (now book) entry ≡ Fine ⌝ }
     ensures { λ r. ⌜ (r ≡ nOf (now (book .entry)) (entry - 1)) × (r ≤ mostSlots) ⌝ }
@@ -18,7 +18,7 @@ pub fn slots(book: &[u8], entry: usize) -> usize
     book[format::entry_place(entry - 1)] as usize
 }
 
-// k.
+// k, how many settings there are.
 pub fn settings(book: &[u8], entry: usize) -> usize
     requires { ⌜ askedVerdict formatOne (now book) entry ≡ Fine ⌝ }
     ensures { λ r. ⌜ (r ≡ kOf (now (book .entry)) (entry - 1)) × (r ≤ mostSettings) ⌝ }
@@ -58,7 +58,7 @@ pub fn rank(book: &[u8], entry: usize) -> u64
 {
     let n = slots(book, entry);
     let mut modules = [0u8; MOST_SLOTS];
-    let mut in_slots = [0u8; MOST_SLOTS];
-    write(book, entry, &mut modules[..n], &mut in_slots[..n]);
-    order::rank::rank(n, settings(book, entry), &modules[..n], &in_slots[..n])
+    let mut slot_settings = [0u8; MOST_SLOTS];
+    write(book, entry, &mut modules[..n], &mut slot_settings[..n]);
+    order::rank::rank(n, settings(book, entry), &modules[..n], &slot_settings[..n])
 }

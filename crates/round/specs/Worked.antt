@@ -1,11 +1,10 @@
--- 01, "Worked arrangements": the cases marked *, as one list. A case says what a definition comes to; an arrangement is two lists
+-- 01, "Worked arrangements": the cases marked *, as one list. A case says what definitions come to; an arrangement is two lists
 -- there, modules and settings by slot.
 use Prim.Native.Nat.{ℕ}
-use mathlib.Core.Path.{_≡_}
-use mathlib.Core.List.{List, [], _∷_}
+use mathlib.Core.List.{List, [], _∷_, _++_}
 use lib.ListN.{length}
 use Rattle.rows.specs.Row.{at, row}
-use Rattle.sizes.specs.declared.Verdict.the-variants.{Refused}
+use Rattle.sizes.specs.Refusal.{numberOf, placeOf}
 use Rattle.sizes.specs.Sizes.{weight}
 use Rattle.arrangement.specs.Check.{lentVerdict}
 use Rattle.arrangement.specs.Flip.{flippedModules, flippedSettings}
@@ -30,22 +29,25 @@ pub data Case : Type 0 where
   -- n, k, two buffers: the number and the place of the refusal
   refusing : ℕ → ℕ → List ℕ → List ℕ → ℕ → ℕ → Case
 
--- what a case says. A rank is told both ways, from the arrangement and to it, and a flip in all three, by looking, from the digits
--- of the rank and from the board of the rank
-unfoldable pub Holds : Case → Type 0
-Holds (total n k t) = weight n k ≡ t
-Holds (ranked n k ms ss r) = (rank n k (at ms) (at ss) ≡ r) × (row (unrankModules n k r) n ≡ ms) × (row (unrankSettings n k r) n ≡ ss)
-Holds (leaving n k ms ss j) =
-    (look n k (at ms) (at ss) ≡ j) × (flipOut n k (rank n k (at ms) (at ss)) ≡ j) × (stepFlip n k (pointers n k (digit k (rank n k (at ms) (at ss)))) ≡ j)
-Holds (flipping k j ms ss ms' ss') =
-    (row (flippedModules j (at ms)) (length ms) ≡ ms') × (row (flippedSettings k j (at ss)) (length ss) ≡ ss')
-Holds (counting n k r t v c w e x) = pairCount n k r t v c w e ≡ x
-Holds (refusing n k ms ss number place) = lentVerdict n k ms ss ≡ Refused number place
+-- what the definitions come to in a case, as numbers. A rank is told both ways, from the arrangement and to it, and a flip in all
+-- three, by looking, from the digits of the rank and from the board of the rank
+unfoldable pub comesTo : Case → List ℕ
+comesTo (total n k t) = weight n k ∷ []
+comesTo (ranked n k ms ss r) = rank n k (at ms) (at ss) ∷ row (unrankModules n k r) n ++ row (unrankSettings n k r) n
+comesTo (leaving n k ms ss j) =
+    look n k (at ms) (at ss) ∷ flipOut n k (rank n k (at ms) (at ss)) ∷ stepFlip n k (pointers n k (digit k (rank n k (at ms) (at ss)))) ∷ []
+comesTo (flipping k j ms ss ms' ss') = row (flippedModules j (at ms)) (length ms) ++ row (flippedSettings k j (at ss)) (length ss)
+comesTo (counting n k r t v c w e x) = pairCount n k r t v c w e ∷ []
+comesTo (refusing n k ms ss number place) = numberOf (lentVerdict n k ms ss) ∷ placeOf (lentVerdict n k ms ss) ∷ []
 
--- all cases of a list hold
-unfoldable pub AllHold : List Case → Type 0
-AllHold [] = Unit {0}
-AllHold (c ∷ cs) = Holds c × AllHold cs
+-- what 01 says that they come to
+unfoldable pub said : Case → List ℕ
+said (total n k t) = t ∷ []
+said (ranked n k ms ss r) = r ∷ ms ++ ss
+said (leaving n k ms ss j) = j ∷ j ∷ j ∷ []
+said (flipping k j ms ss ms' ss') = ms' ++ ss'
+said (counting n k r t v c w e x) = x ∷ []
+said (refusing n k ms ss number place) = number ∷ place ∷ []
 
 -- the cases marked *, in 01's order
 unfoldable pub starred : List Case

@@ -19,8 +19,8 @@ array-borrow-prefix-modules c = search needs
 slice-aggregate-write : tie.Need-slice-aggregate-write
 slice-aggregate-write c = sym (lent-length (c .before .slots .ensures .1))
 
-array-borrow-prefix-in-slots : tie.Need-array-borrow-prefix-in-slots
-array-borrow-prefix-in-slots c = search needs
+array-borrow-prefix-slot-settings : tie.Need-array-borrow-prefix-slot-settings
+array-borrow-prefix-slot-settings c = search needs
 
 slice-aggregate-write-2 : tie.Need-slice-aggregate-write-2
 slice-aggregate-write-2 c = sym (lent-length (c .before .before .slots .ensures .1))
@@ -42,8 +42,8 @@ slice-aggregate-rank c =
     let written = c .before .before .before .before in
     sym (written-taken _ _ (sym (written .before .before .before .slots .ensures .0)) (written .write .ensures .0))
 
-array-share-prefix-in-slots : tie.Need-array-share-prefix-in-slots
-array-share-prefix-in-slots c =
+array-share-prefix-slot-settings : tie.Need-array-share-prefix-slot-settings
+array-share-prefix-slot-settings c =
     let written = c .before .before .before .before in written-long _ _ (sym (written .before .before .before .slots .ensures .0)) (written .write .ensures .1)
 
 slice-aggregate-rank-2 : tie.Need-slice-aggregate-rank-2
@@ -84,13 +84,13 @@ rank-spec =
     slots-requires
     array-borrow-prefix-modules
     slice-aggregate-write
-    array-borrow-prefix-in-slots
+    array-borrow-prefix-slot-settings
     slice-aggregate-write-2
     write-requires
     settings-requires
     array-share-prefix-modules
     slice-aggregate-rank
-    array-share-prefix-in-slots
+    array-share-prefix-slot-settings
     slice-aggregate-rank-2
     rank-requires
     returns)
