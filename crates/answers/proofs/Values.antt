@@ -8,7 +8,7 @@ use Rattle.sizes.specs.declared.Verdict.{Verdict}
 use Rattle.sizes.specs.Refusal.{refuses}
 use Rattle.sizes.specs.Sizes.{sizesVerdict}
 use Rattle.arrangement.specs.Check.{lentVerdict}
-use Rattle.arrangement.specs.Flip.{flipVerdict}
+use Rattle.flip.specs.Flip.{flipVerdict}
 use Rattle.order.specs.Check.{startVerdict}
 use Rattle.board.specs.Read.{Reads as ReadsBoard}
 use Rattle.board.specs.declared.read.Reading.{Reading}

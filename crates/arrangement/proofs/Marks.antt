@@ -14,7 +14,7 @@ use Rattle.rows.proofs.Cases.{by-test}
 use Rattle.rows.proofs.Rows.{length-row, at-row, set-row}
 use Rattle.rows.proofs.Searches.{none-yet, holds-next, same-next}
 use Rattle.arrangement.specs.Check.{repeated}
-use Rattle.arrangement.specs.Copy.{wide, blank}
+use Rattle.rows.specs.Copy.{wide, blank}
 
 -- 1 where module v stands in one of the first i slots, and else 0
 pub mark : (ℕ → ℕ) → ℕ → ℕ → ℕ

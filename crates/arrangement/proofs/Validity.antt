@@ -18,7 +18,6 @@ use Rattle.sizes.proofs.Refusals.{both-fine, no-fault, no-place, faultless, las
 use Rattle.sizes.proofs.Weights.{permitted, not-refused, small-sizes}
 use Rattle.arrangement.specs.Arrangement.{Valid, homeModules, homeSettings}
 use Rattle.arrangement.specs.Check.{lengthVerdict, buffersVerdict, badModule, repeated, badSetting, slotsVerdict, lentVerdict}
-use Rattle.arrangement.specs.Flip.{Flippable, flipLengthVerdict, flipVerdict}
 use Rattle.arrangement.proofs.Checks.{stands-once, right-length}
 
 -- ---- 5, 6 and 7
@@ -123,29 +122,6 @@ accepted-fine n k ms ss a =
     rw (← fit-fine n k ms 0 ss (record { sizes = a .sizes; one = a .modules; two = omega (arith, a .settings) }))
     (valid-fine n k (at ms) (at ss) (a .valid-is))
 
--- ---- a flip
-
--- a flip that is not refused can be made
-pub flippable : (n k j : ℕ) (ms ss : List ℕ) → flipVerdict n k j ms ss ≡ Fine → Flippable k j ms ss
-unfolding flipVerdict flipLengthVerdict
-flippable n k j ms ss e =
-    let both = both-fine (lentVerdict n k ms ss) _ e in
-    let a = accepted n k ms ss (both .0) in
-    let range = inside 1 n j (no-fault 9 _ (both .1)) in
-    record {
-      k-high = a .sizes .k-high;
-      j-high = omega arith;
-      modules = omega arith;
-      settings = omega arith;
-      set = λ i h. a .valid-is .cell i (omega arith) .setting;
-    }
-
--- and is one of two buffers of n bytes
-pub flip-lengths : (n k j : ℕ) (ms ss : List ℕ) → flipVerdict n k j ms ss ≡ Fine → (length ms ≡ n) × (length ss ≡ n)
-unfolding flipVerdict
-flip-lengths n k j ms ss e =
-    let a = accepted n k ms ss (both-fine (lentVerdict n k ms ss) _ e .0) in (a .modules, a .settings)
-
 -- ---- home
 
 pub home-valid : (n k : ℕ) → 1 ≤ k → Valid n k homeModules homeSettings
@@ -174,7 +150,3 @@ unfolding lentVerdict
 small-lent n k ms ss =
     small-first _ _ (small-buffers n k ms 0 ss)
     (λ fine. small-slots n k (at ms) (at ss) (fit n k ms 0 ss fine .sizes .n-high))
-
-pub small-flip : (n k j : ℕ) (ms ss : List ℕ) → Small (flipVerdict n k j ms ss)
-unfolding flipVerdict flipLengthVerdict
-small-flip n k j ms ss = small-first _ _ (small-lent n k ms ss) (λ fine. small-if 9 _ (omega arith))

@@ -10,7 +10,7 @@ use Rattle.rows.specs.Search.{outside, lowest}
 use Rattle.sizes.specs.declared.Verdict.{Verdict}
 use Rattle.sizes.specs.Refusal.{first, refusedIf, refusedAt}
 use Rattle.sizes.specs.Sizes.{sizesVerdict, mostSlots}
-use Rattle.arrangement.specs.Copy.{wide}
+use Rattle.rows.specs.Copy.{wide}
 
 -- 4: a lent buffer that should have n bytes hasn't
 unfoldable pub lengthVerdict : ℕ → List ℕ → Verdict

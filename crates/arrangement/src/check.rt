@@ -1,6 +1,6 @@
 // The check of an arrangement. Each search answers the lowest bad slot, counted from 1, or 0 where
 // there is none.
-use crate::copy::WIDE;
+use rows::copy::WIDE;
 use sizes::Verdict;
 ghost use mathlib.Core.Path.{_≡_};
 ghost use Prim.Native.Nat.{_≤_};

@@ -24,7 +24,7 @@ use Rattle.sizes.specs.Refusal.{first, numberOf, placeOf}
 use Rattle.sizes.proofs.Refusals.{Small, small-first}
 use Rattle.sizes.specs.Sizes.{weight, Permitted, mostArrangements}
 use Rattle.sizes.proofs.Weights.{weight-zero, weight-mono, one-more}
-use Rattle.arrangement.specs.Copy.{blank}
+use Rattle.rows.specs.Copy.{blank}
 use Rattle.arrangement.specs.Check.{buffersVerdict}
 use Rattle.arrangement.proofs.Validity.{fit, fit-fine, small-buffers}
 use Rattle.order.specs.Digits.{digit, ofDigits}

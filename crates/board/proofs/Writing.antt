@@ -14,7 +14,7 @@ use Rattle.rows.proofs.Cases.{by-test, opposite}
 use Rattle.rows.proofs.Rows.{read, begun, stored, written-over}
 use Rattle.sizes.specs.Sizes.{weight, Permitted, mostSlots, mostSettings}
 use Rattle.sizes.proofs.Weights.{weight-zero, weight-suc}
-use Rattle.arrangement.specs.Copy.{blank}
+use Rattle.rows.specs.Copy.{blank}
 use Rattle.order.specs.Digits.{digit}
 use Rattle.board.specs.Board.{place, lowestDigit, full, counter, runEnd, pointer, counters, pointers, IsBoard}
 use Rattle.board.proofs.Runs.{back, lowest-range, full-below, full-here, full-ext, counter-below, counter-full, counter-open, counter-ext, run-stops, run-goes, pointer-inside, pointer-behind, counters-ext, pointers-ext}

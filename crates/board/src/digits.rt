@@ -1,11 +1,11 @@
 // The board of digits, in rows by value.
-use arrangement::copy::WIDE;
+use rows::copy::WIDE;
 ghost use mathlib.Core.Path.{_≡_};
 ghost use mathlib.Core.Bool.{cond};
 ghost use Prim.Native.Nat.{suc, _-_, _≤_};
 ghost use Rattle.rows.specs.Row.{front};
 ghost use Rattle.sizes.specs.Sizes.{Permitted, mostSettings, mostSlots};
-ghost use Rattle.arrangement.specs.Copy.{blank};
+ghost use Rattle.rows.specs.Copy.{blank};
 ghost use Rattle.board.specs.Board.{place, lowestDigit, full, counter as counterOf, runEnd, pointer as pointerOf};
 
 // s, the lowest digit that can be below its full value.

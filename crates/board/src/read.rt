@@ -2,7 +2,7 @@
 // lent, they are those of its rank, and else it is no rank's board.
 use crate::digits;
 use arrangement::check::judge_buffers;
-use arrangement::copy::WIDE;
+use rows::copy::WIDE;
 use sizes::Verdict;
 ghost use mathlib.Core.Path.{_≡_};
 ghost use Prim.Native.Nat.{suc, _-_, _*_, _≤_};
@@ -12,7 +12,7 @@ ghost use lib.ListN.{length};
 ghost use Rattle.rows.specs.Row.{at, front};
 ghost use Rattle.rows.specs.Search.{ifLt, lowest};
 ghost use Rattle.sizes.specs.Sizes.{mostSettings, mostSlots};
-ghost use Rattle.arrangement.specs.Copy.{wide, blank};
+ghost use Rattle.rows.specs.Copy.{wide, blank};
 ghost use Rattle.order.specs.Digits.{ofDigits};
 ghost use Rattle.board.specs.Board.{place};
 ghost use Rattle.board.specs.Asked.{LentBoard, DigitsAsked};

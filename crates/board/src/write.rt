@@ -1,12 +1,12 @@
 // The board of a rank: the digits are taken off once, and their board is written.
 use crate::digits;
-use arrangement::copy;
-use arrangement::copy::WIDE;
+use rows::copy;
+use rows::copy::WIDE;
 ghost use mathlib.Core.Path.{_≡_};
 ghost use Prim.Native.Nat.{suc};
 ghost use Rattle.rows.specs.Row.{front};
 ghost use Rattle.sizes.specs.Sizes.{Permitted};
-ghost use Rattle.arrangement.specs.Copy.{blank};
+ghost use Rattle.rows.specs.Copy.{blank};
 ghost use Rattle.order.specs.Digits.{digit};
 ghost use Rattle.board.specs.Board.{IsBoard};
 ghost use Rattle.board.specs.Asked.{BoardAsked};

@@ -12,7 +12,7 @@ ghost use Rattle.rows.specs.Row.{at};
 ghost use Rattle.sizes.specs.Sizes.{mostSlots};
 ghost use Rattle.arrangement.specs.Check.{slotsVerdict};
 ghost use Rattle.book.specs.Format.{formatOne, mostEntries};
-ghost use Rattle.book.specs.Read.{entriesOf, expected, inEntry, firstOf, entryVerdict, contentsVerdict, bodyVerdict, bookVerdict, askedVerdict, lentEntryVerdict};
+ghost use Rattle.book.specs.Read.{entriesOf, expected, inEntry, firstOf, entryVerdict, contentsVerdict, bodyVerdict, bookVerdict, askedVerdict};
 ghost use Rattle.book.specs.Asked.{ContentsAsked, BodiesAsked};
 
 // A verdict about an entry, which is counted from 0 here.
@@ -144,24 +144,6 @@ pub fn judge(book: &[u8], entry: usize) -> Verdict
     }
     if (book[1] as usize) < entry {
         return Verdict::Refused(18, 0);
-    }
-    Verdict::Fine
-}
-
-// The same, and the check of any two lent buffers.
-pub fn judge_lent(book: &[u8], entry: usize, modules: &[u8], settings: &[u8]) -> Verdict
-    ensures { λ r. ⌜ r ≡ lentEntryVerdict formatOne (now (book .entry)) entry (now (modules .entry)) (now (settings .entry)) ⌝ }
-{
-    let asked = judge(book, entry);
-    if asked.refuses() {
-        return asked;
-    }
-    let n = crate::read::slots(book, entry);
-    if modules.len() != n {
-        return Verdict::Refused(4, 0);
-    }
-    if settings.len() != n {
-        return Verdict::Refused(4, 0);
     }
     Verdict::Fine
 }

@@ -7,7 +7,7 @@ use Rattle.rows.specs.Row.{at, row}
 use Rattle.sizes.specs.Refusal.{unlessRefused}
 use Rattle.sizes.specs.Sizes.{weight, sizesVerdict}
 use Rattle.arrangement.specs.Check.{lentVerdict}
-use Rattle.arrangement.specs.Flip.{flippedModules, flippedSettings, flipVerdict}
+use Rattle.flip.specs.Flip.{flippedModules, flippedSettings, flipVerdict}
 use Rattle.order.specs.Check.{lentRankVerdict}
 use Rattle.order.specs.Rank.{rank, unrankModules, unrankSettings}
 use Rattle.look.specs.Look.{look}

@@ -20,10 +20,10 @@ pub extern "C" fn limpet_flip(
 ) -> u64
     ensures { λ r. ⌜ Leaves (flipLeaves n k j (now (modules .entry)) (now (settings .entry))) r (now (modules .exit)) (now (settings .exit)) ⌝ }
 {
-    let verdict = arrangement::flip::judge(n, k, j, modules, settings);
+    let verdict = flip::judge(n, k, j, modules, settings);
     if verdict.refuses() {
         return pack(verdict, 0);
     }
-    arrangement::flip::flip(k, j, modules, settings);
+    flip::flip(k, j, modules, settings);
     pack(verdict, 0)
 }

@@ -19,7 +19,7 @@ pub extern "C" fn limpet_board_write(
 ) -> u64
     ensures { λ r. ⌜ Leaves (boardLeaves n k rank (now (counters .entry)) (now (pointers .entry))) r (now (counters .exit)) (now (pointers .exit)) ⌝ }
 {
-    let verdict = order::check::judge(n, k, rank, counters, 1, pointers);
+    let verdict = rank::check::judge(n, k, rank, counters, 1, pointers);
     if verdict.refuses() {
         return pack(verdict, 0);
     }

@@ -12,13 +12,13 @@ pub extern "C" fn limpet_book_read(
 ) -> u64
     ensures { λ r. ⌜ Leaves (bookLeaves (now (book .entry)) entry (now (modules .entry)) (now (settings .entry))) r (now (modules .exit)) (now (settings .exit)) ⌝ }
 {
-    let verdict = book::check::judge_lent(book, entry, modules, settings);
+    let verdict = entry::judge(book, entry, modules, settings);
     if verdict.refuses() {
         return pack(verdict, 0);
     }
-    let n = book::read::slots(book, entry);
-    let k = book::read::settings(book, entry);
-    book::read::write(book, entry, modules, settings);
+    let n = entry::slots(book, entry);
+    let k = entry::settings(book, entry);
+    entry::write(book, entry, modules, settings);
     pack(verdict, (n + 256 * k) as u64)
 }
 
@@ -29,7 +29,7 @@ pub extern "C" fn limpet_book_count(book: &[u8], entry: usize) -> u64
     if book::check::judge(book, entry).refuses() {
         return 0;
     }
-    book::read::count(book, entry)
+    entry::count(book, entry)
 }
 
 #[no_mangle]
@@ -39,5 +39,5 @@ pub extern "C" fn limpet_book_rank(book: &[u8], entry: usize) -> u64
     if book::check::judge(book, entry).refuses() {
         return 0;
     }
-    book::read::rank(book, entry)
+    entry::rank(book, entry)
 }

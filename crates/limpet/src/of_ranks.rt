@@ -18,7 +18,7 @@ pub extern "C" fn limpet_rank_value(n: usize, k: usize, modules: &[u8], settings
     if arrangement::check::judge(n, k, modules, settings).refuses() {
         return 0;
     }
-    order::rank::rank(n, k, modules, settings)
+    rank::rank(n, k, modules, settings)
 }
 
 #[no_mangle]
@@ -31,10 +31,10 @@ pub extern "C" fn limpet_unrank(
 ) -> u64
     ensures { λ r. ⌜ Leaves (unrankLeaves n k rank (now (modules .entry)) (now (settings .entry))) r (now (modules .exit)) (now (settings .exit)) ⌝ }
 {
-    let verdict = order::check::judge(n, k, rank, modules, 0, settings);
+    let verdict = rank::check::judge(n, k, rank, modules, 0, settings);
     if verdict.refuses() {
         return pack(verdict, 0);
     }
-    order::unrank::write(n, k, rank, modules, settings);
+    unrank::write(n, k, rank, modules, settings);
     pack(verdict, 0)
 }

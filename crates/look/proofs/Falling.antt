@@ -10,8 +10,8 @@ use native.Mathlib.Omega.{arith}
 use lib.Arith.{le-zero}
 use Rattle.rows.proofs.Cases.{by-lt, by-ne, by-last, if-lt, if-ge}
 use Rattle.arrangement.specs.Arrangement.{Cell, Valid}
-use Rattle.arrangement.specs.Flip.{raised}
-use Rattle.arrangement.proofs.Flips.{raised-lt}
+use Rattle.flip.specs.Flip.{raised}
+use Rattle.flip.proofs.Flips.{raised-lt}
 use Rattle.order.specs.Rank.{raisedBy, loweredBy, renamedModule, renamedSetting, restoredSetting, prefixModules, prefixSettings, rank, lastModules, lastSettings}
 use Rattle.order.proofs.Renaming.{lowered-raised, lowered-once-more, raised-lowered-more, lowered-back, raised-lowered, renamed-above, renamed-below, setting-above, setting-below, restored-renamed-setting}
 use Rattle.order.proofs.Ranks.{rank-ext, rank-rest, prefix-valid, last, cell, k-low, not-last, rank-once-module, rank-once-setting}

@@ -15,7 +15,7 @@ use Rattle.rows.proofs.Cases.{by-eq, by-lt, opposite}
 use Rattle.rows.proofs.Searches.{by-lowest, none-yet, passed, found}
 use Rattle.sizes.specs.Sizes.{mostSlots}
 use Rattle.arrangement.specs.Arrangement.{Valid}
-use Rattle.arrangement.specs.Flip.{raised, flippedModules, flippedSettings, Flippable}
+use Rattle.flip.specs.Flip.{raised, flippedModules, flippedSettings, Flippable}
 use Rattle.order.specs.Asked.{LentAsked}
 use Rattle.order.specs.Rank.{rank}
 use Rattle.order.specs.Digits.{digit, flipOut, nextRank}

@@ -5,7 +5,7 @@ use Prim.Native.Nat.{ℕ, suc, _+_, _-_}
 use mathlib.Core.Bool.{Bool, true, cond}
 use lib.Dec.{eqb, leb}
 use Rattle.rows.specs.Search.{ifLt, orElse, lowest}
-use Rattle.arrangement.specs.Flip.{raised}
+use Rattle.flip.specs.Flip.{raised}
 
 -- ---- with a:s in front
 

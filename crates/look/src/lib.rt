@@ -1,12 +1,11 @@
 // The flip by looking, and the next arrangement. It looks from slot to slot and stops where the slots
 // stop falling, so it costs as many slots as the flip is long.
-use arrangement::flip;
 ghost use mathlib.Core.Path.{_≡_};
 ghost use Prim.Native.Nat.{_≤_};
 ghost use Rattle.rows.specs.Row.{at, row};
 ghost use Rattle.rows.specs.Search.{ifLt};
 ghost use Rattle.sizes.specs.Sizes.{mostSlots};
-ghost use Rattle.arrangement.specs.Flip.{flippedModules, flippedSettings};
+ghost use Rattle.flip.specs.Flip.{flippedModules, flippedSettings};
 ghost use Rattle.order.specs.Asked.{LentAsked};
 ghost use Rattle.look.specs.Look.{offset, look};
 

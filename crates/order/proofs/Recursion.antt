@@ -13,7 +13,7 @@ use Rattle.rows.proofs.Rows.{length-row, at-row, row-ext, read, unread, rewritt
 use Rattle.sizes.specs.Sizes.{weight, Permitted, mostSlots, mostSettings}
 use Rattle.sizes.proofs.Weights.{weight-zero, weight-suc, weight-pos, weight-mono}
 use Rattle.arrangement.specs.Arrangement.{Cell, Valid}
-use Rattle.arrangement.specs.Copy.{wide, blank}
+use Rattle.rows.specs.Copy.{wide, blank}
 use Rattle.arrangement.proofs.Validity.{valid-ext}
 use Rattle.order.specs.Rank.{lastDigit, moduleOf, settingOf, prefixModules, prefixSettings, rank, renamedModule, restoredModule, restoredSetting, unrankModules, unrankSettings}
 use Rattle.order.specs.Digits.{digit}

@@ -9,7 +9,7 @@ use native.Mathlib.Numerals.{add-one}
 use native.Mathlib.Omega.{arith}
 use Rattle.rows.proofs.Cases.{by-lt, by-ne, if-lt, if-ge}
 use Rattle.arrangement.specs.Arrangement.{Cell}
-use Rattle.arrangement.specs.Flip.{raised}
+use Rattle.flip.specs.Flip.{raised}
 use Rattle.order.specs.Rank.{raisedBy, loweredBy, renamedModule, renamedSetting, restoredModule, restoredSetting}
 
 -- ---- settings, modulo k

@@ -12,8 +12,8 @@ use Rattle.rows.proofs.Cases.{by-lt, by-last, if-lt, if-ge}
 use Rattle.sizes.specs.Sizes.{weight}
 use Rattle.sizes.proofs.Weights.{weight-zero, weight-suc, weight-pos}
 use Rattle.arrangement.specs.Arrangement.{Cell, Valid, homeModules, homeSettings}
-use Rattle.arrangement.specs.Flip.{raised, source, flippedModules, flippedSettings}
-use Rattle.arrangement.proofs.Flips.{flipped-valid, raised-lt, source-front, source-behind, module-front, module-behind, setting-front, setting-behind}
+use Rattle.flip.specs.Flip.{raised, source, flippedModules, flippedSettings}
+use Rattle.flip.proofs.Flips.{flipped-valid, raised-lt, source-front, source-behind, module-front, module-behind, setting-front, setting-behind}
 use Rattle.order.specs.Rank.{raisedBy, loweredBy, renamedModule, renamedSetting, restoredModule, restoredSetting, lastDigit, prefixModules, prefixSettings, rank, unrankModules, unrankSettings, lastModules, lastSettings}
 use Rattle.order.specs.Digits.{flipOut, nextRank}
 use Rattle.order.proofs.Renaming.{lowered-raised, lowered-once-more, lowered-self, renamed-above, renamed-below, setting-above, setting-below, restored-above, restored-below, restored-setting-above, restored-setting-below}

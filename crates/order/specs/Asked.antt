@@ -6,7 +6,7 @@ use lib.ListN.{length}
 use Rattle.rows.specs.Row.{at}
 use Rattle.sizes.specs.Sizes.{weight, Permitted, mostSlots, mostSettings}
 use Rattle.arrangement.specs.Arrangement.{Cell, Valid}
-use Rattle.arrangement.specs.Copy.{wide}
+use Rattle.rows.specs.Copy.{wide}
 use Rattle.order.specs.Rank.{unrankModules, unrankSettings}
 
 -- every place of two rows by value, also behind the slots, has a module of at most 20 and a setting below k: so the sums of

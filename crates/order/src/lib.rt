@@ -1,5 +1,2 @@
-// The order of the arrangements: the number of an arrangement (`rank`) and the arrangement of a
-// number (`unrank`), which call themselves on one slot fewer, and the check of a number (`check`).
-pub mod check;
-pub mod rank;
-pub mod unrank;
+// The order of the arrangements: definitions in specs/, laws in proofs/. There is no code here; that of
+// ranks is in `rank`, and that of the arrangement of a rank in `unrank`.

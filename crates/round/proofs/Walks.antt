@@ -10,7 +10,7 @@ use native.Mathlib.Nat.{mod-eq-of-lt, mod-add-mod, add-mod-mod, add-mod-right}
 use native.Mathlib.Omega.{arith}
 use Rattle.rows.proofs.Cases.{by-lt}
 use Rattle.sizes.specs.Sizes.{weight, Permitted}
-use Rattle.arrangement.proofs.Flips.{flipped-valid}
+use Rattle.flip.proofs.Flips.{flipped-valid}
 use Rattle.order.specs.Digits.{flipOut, nextRank}
 use Rattle.order.proofs.Ranks.{rank-ext, rank-lt, rank-once-module, rank-once-setting}
 use Rattle.look.proofs.Looks.{look-is, look-rank, look-step}

@@ -6,7 +6,7 @@ use Rattle.rows.specs.Search.{ifLt, outside, orElse, lowest}
 use Rattle.sizes.specs.Refusal.{numberOf, placeOf, first, refusedIf, refusedAt}
 use Rattle.sizes.specs.Sizes.{factorial, weight, sizesVerdict}
 use Rattle.arrangement.specs.Check.{lengthVerdict, buffersVerdict, badModule, repeated, badSetting, slotsVerdict, lentVerdict}
-use Rattle.arrangement.specs.Flip.{raised, source, flippedModules, flippedSettings}
+use Rattle.flip.specs.Flip.{raised, source, flippedModules, flippedSettings}
 use Rattle.order.specs.Rank.{raisedBy, loweredBy, renamedModule, renamedSetting, restoredModule, restoredSetting, lastDigit, rank, moduleOf, settingOf, unrankModules, unrankSettings}
 use Rattle.order.specs.Digits.{digit, openDigit, flipOut}
 use Rattle.look.specs.Look.{offset, expectedSetting, stops, look}

@@ -3,7 +3,7 @@ use Prim.Native.Nat.{ℕ, zero, suc, _<_}
 use mathlib.Core.Path.{_≡_}
 use mathlib.Core.List.{List}
 use Rattle.arrangement.specs.Arrangement.{Valid}
-use Rattle.arrangement.specs.Flip.{flippedModules, flippedSettings}
+use Rattle.flip.specs.Flip.{flippedModules, flippedSettings}
 use Rattle.order.specs.Rank.{rank}
 use Rattle.look.specs.Look.{look}
 use Rattle.board.specs.Board.{IsBoard}

@@ -7,7 +7,7 @@ use Rattle.rows.specs.Row.{at, row}
 use Rattle.sizes.specs.Refusal.{numberOf, placeOf}
 use Rattle.sizes.specs.Sizes.{weight}
 use Rattle.arrangement.specs.Check.{lentVerdict}
-use Rattle.arrangement.specs.Flip.{flippedModules, flippedSettings}
+use Rattle.flip.specs.Flip.{flippedModules, flippedSettings}
 use Rattle.order.specs.Rank.{rank, unrankModules, unrankSettings}
 use Rattle.order.specs.Digits.{digit, flipOut}
 use Rattle.look.specs.Look.{look}

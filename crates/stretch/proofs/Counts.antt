@@ -13,7 +13,7 @@ use Rattle.rows.specs.Search.{ifLt}
 use Rattle.rows.proofs.Cases.{by-test}
 use Rattle.sizes.specs.Sizes.{weight}
 use Rattle.sizes.proofs.Weights.{weight-pos}
-use Rattle.arrangement.specs.Flip.{raised, source}
+use Rattle.flip.specs.Flip.{raised, source}
 use Rattle.order.specs.Rank.{rank, unrankModules, unrankSettings}
 use Rattle.order.specs.Digits.{flipOut, nextRank}
 use Rattle.order.proofs.Steps.{flip-high, next-module, next-setting}

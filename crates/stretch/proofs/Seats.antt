@@ -11,8 +11,8 @@ use borrow.Author.Tests.{eqb-true, eq-eqb, leb-false, lt-leb, lt-ltb, le-ltb}
 use Rattle.rows.specs.Search.{ifLt, lowest}
 use Rattle.rows.proofs.Cases.{by-lt, by-test, opposite, if-lt, if-ge}
 use Rattle.rows.proofs.Searches.{by-lowest}
-use Rattle.arrangement.specs.Flip.{raised, source, flippedModules, flippedSettings}
-use Rattle.arrangement.proofs.Flips.{raised-lt, source-front, source-behind, source-lt}
+use Rattle.flip.specs.Flip.{raised, source, flippedModules, flippedSettings}
+use Rattle.flip.proofs.Flips.{raised-lt, source-front, source-behind, source-lt}
 use mathlib.Core.List.{List}
 use lib.ListN.{length}
 use Rattle.rows.specs.Row.{at, row}

@@ -1,7 +1,7 @@
 // The check of a stretch, and the pair count over one (`pair`).
 pub mod pair;
 
-use order::check::judge_start;
+use rank::check::judge_start;
 use sizes::Verdict;
 ghost use mathlib.Core.Path.{_≡_};
 ghost use Rattle.stretch.specs.Stretch.{stretchVerdict};

@@ -1,15 +1,15 @@
 // The pair count over a stretch. Of an arrangement, it keeps where the two modules stand and at which
 // settings: a flip moves them by their slots alone. The flips come from the counters, so a step costs
 // the same whatever n is.
-use arrangement::copy::WIDE;
-use arrangement::flip::raise;
+use flip::raise;
+use rows::copy::WIDE;
 use sizes::Verdict;
 ghost use mathlib.Core.Path.{_≡_};
 ghost use Prim.Native.Nat.{_≤_, _<_};
 ghost use Rattle.rows.specs.Row.{at};
 ghost use Rattle.rows.specs.Search.{ifLt};
 ghost use Rattle.sizes.specs.Sizes.{weight, Permitted, mostSettings, mostSlots};
-ghost use Rattle.arrangement.specs.Flip.{raised, source};
+ghost use Rattle.flip.specs.Flip.{raised, source};
 ghost use Rattle.order.specs.Rank.{unrankModules, unrankSettings};
 ghost use Rattle.order.specs.Asked.{LentAsked, WriteAsked};
 ghost use Rattle.board.specs.Asked.{LentBoard};
@@ -112,7 +112,7 @@ fn find_at(n: usize, k: usize, rank: u64, v: usize, modules: &mut [u8], settings
     requires { ⌜ WriteAsked n k rank (now modules) (now settings) ⌝ }
     ensures { λ r. ⌜ Seated n k (unrankModules n k rank) (unrankSettings n k rank) v (r .slot) (r .setting) ⌝ }
 {
-    order::unrank::write(n, k, rank, modules, settings);
+    unrank::write(n, k, rank, modules, settings);
     find(n, k, v, modules, settings)
 }
 

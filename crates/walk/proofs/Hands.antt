@@ -19,8 +19,8 @@ use Rattle.sizes.specs.Sizes.{sizesVerdict}
 use Rattle.sizes.proofs.Refusals.{both-fine, no-fault, was-fine, refused-number, done-number}
 use Rattle.sizes.proofs.Weights.{permitted}
 use Rattle.arrangement.specs.Check.{slotsVerdict}
-use Rattle.arrangement.specs.Flip.{source, flippedModules, flippedSettings, Flippable, flipLengthVerdict}
-use Rattle.arrangement.proofs.Flips.{source-lt}
+use Rattle.flip.specs.Flip.{source, flippedModules, flippedSettings, Flippable, flipLengthVerdict}
+use Rattle.flip.proofs.Flips.{source-lt}
 use Rattle.arrangement.proofs.Validity.{valid, valid-ext, slots-ext}
 use Rattle.order.specs.Rank.{rank}
 use Rattle.order.specs.Asked.{LentAsked}

@@ -12,8 +12,8 @@ use Rattle.sizes.specs.Refusal.{first, unlessRefused}
 use Rattle.sizes.specs.Sizes.{weight, Permitted}
 use Rattle.sizes.proofs.Weights.{not-refused}
 use Rattle.arrangement.specs.Arrangement.{Valid}
-use Rattle.arrangement.specs.Flip.{source, flippedModules, flippedSettings}
-use Rattle.arrangement.proofs.Flips.{source-lt}
+use Rattle.flip.specs.Flip.{source, flippedModules, flippedSettings}
+use Rattle.flip.proofs.Flips.{source-lt}
 use Rattle.arrangement.proofs.Validity.{valid-fine, valid-ext}
 use Rattle.order.specs.Rank.{unrankModules, unrankSettings}
 use Rattle.order.specs.Digits.{flipOut, nextRank}

@@ -10,7 +10,7 @@ use Rattle.sizes.specs.declared.Verdict.the-variants.{Fine, Refused}
 use Rattle.sizes.specs.Refusal.{first, unlessRefused}
 use Rattle.sizes.specs.Sizes.{sizesVerdict, mostSlots}
 use Rattle.arrangement.specs.Check.{slotsVerdict}
-use Rattle.arrangement.specs.Flip.{flippedModules, flippedSettings, flipLengthVerdict}
+use Rattle.flip.specs.Flip.{flippedModules, flippedSettings, flipLengthVerdict}
 use Rattle.order.specs.Rank.{rank, unrankModules, unrankSettings}
 use Rattle.order.specs.Check.{startVerdict}
 use Rattle.look.specs.Look.{look}

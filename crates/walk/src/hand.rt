@@ -2,7 +2,6 @@
 // for settings; those behind n are never looked at, and stay. A refused walk comes back as it was
 // given.
 use arrangement::check;
-use arrangement::flip;
 use sizes::Verdict;
 ghost use mathlib.Core.Path.{_≡_};
 ghost use Prim.Native.Nat.{_≤_, _<_};
@@ -55,7 +54,7 @@ fn rank_places(n: usize, k: usize, modules: [u8; PLACES], settings: [u8; PLACES]
     requires { ⌜ PlacesAsked n k modules settings ⌝ }
     ensures { λ r. ⌜ r ≡ rankOf n k (at modules) (at settings) ⌝ }
 {
-    order::rank::rank(n, k, &modules[..n], &settings[..n])
+    rank::rank(n, k, &modules[..n], &settings[..n])
 }
 
 // The flip by looking at the first n places.
@@ -102,7 +101,7 @@ fn walk_of(n: usize, k: usize, rank: u64) -> Walk
 {
     let mut modules = [0u8; PLACES];
     let mut settings = [0u8; PLACES];
-    order::unrank::write(n, k, rank, &mut modules[..n], &mut settings[..n]);
+    unrank::write(n, k, rank, &mut modules[..n], &mut settings[..n]);
     Walk {
         n,
         k,
@@ -115,7 +114,7 @@ fn walk_of(n: usize, k: usize, rank: u64) -> Walk
 pub fn make(n: usize, k: usize, rank: u64) -> Made
     ensures { λ r. ⌜ r ≡ makes n k rank ⌝ }
 {
-    let verdict = order::check::judge_start(n, k, rank);
+    let verdict = rank::check::judge_start(n, k, rank);
     if verdict.refuses() {
         return Made {
             verdict,

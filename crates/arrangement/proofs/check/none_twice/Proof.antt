@@ -6,7 +6,7 @@ use native.Mathlib.Omega.{arith}
 use lib.ListN.{length, set}
 use Rattle.rows.specs.Row.{at, row}
 use Rattle.rows.proofs.Rows.{at-row}
-use Rattle.arrangement.specs.Copy.{wide}
+use Rattle.rows.specs.Copy.{wide}
 use Rattle.arrangement.proofs.Marks.{mark, unmarked, marked, Tally, tally-begun, tally-on, tally-told}
 use borrow.Author.Needs.{needs}
 use Rattle.arrangement.proofs.check.none_twice.Statement.{statement}

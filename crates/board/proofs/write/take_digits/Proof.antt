@@ -6,7 +6,7 @@ use native.Mathlib.Omega.{arith}
 use Rattle.rows.specs.Row.{front}
 use Rattle.rows.proofs.Rows.{begun, stored}
 use Rattle.sizes.specs.Sizes.{weight}
-use Rattle.arrangement.specs.Copy.{blank}
+use Rattle.rows.specs.Copy.{blank}
 use Rattle.order.specs.Digits.{digit}
 use Rattle.board.proofs.Writing.{none-taken, digit-taken, above-taken, TakenFits, next-fits}
 use borrow.Author.Needs.{needs}

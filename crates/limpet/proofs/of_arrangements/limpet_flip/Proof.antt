@@ -6,7 +6,7 @@ use lib.ListN.{length}
 use Rattle.rows.specs.Row.{row}
 use Rattle.rows.proofs.Rows.{length-row}
 use Rattle.sizes.proofs.Refusals.{was-fine}
-use Rattle.arrangement.proofs.Validity.{flippable, flip-lengths}
+use Rattle.flip.proofs.Flips.{flippable, flip-lengths}
 use Rattle.limpet.specs.Calls.{flipLeaves}
 use Rattle.limpet.proofs.Answers.{refused-leaves, done-leaves}
 use Rattle.limpet.proofs.of_arrangements.limpet_flip.Statement.{statement}

@@ -15,8 +15,8 @@ use borrow.Author.Needs.{needs}
 use Rattle.limpet.proofs.of_books.limpet_book_read.Statement.{statement}
 use Rattle.limpet.proofs.of_books.limpet_book_read.Tie as tie
 
-judge-lent-requires : tie.Need-judge-lent-requires
-judge-lent-requires c κs = search needs
+judge-requires : tie.Need-judge-requires
+judge-requires c κs = search needs
 
 refuses-requires : tie.Need-refuses-requires
 refuses-requires c κs = search needs
@@ -34,14 +34,14 @@ returns : tie.Need-returns
 unfolding bookLeaves
 returns c =
     let judged = c .before .before in
-    refused-leaves _ 0 _ _ _ _ (judged .before .judge-lent .ensures) (judged .refuses .ensures) (c .before .if1 .taken) (c .pack .ensures) refl refl
+    refused-leaves _ 0 _ _ _ _ (judged .before .judge .ensures) (judged .refuses .ensures) (c .before .if1 .taken) (c .pack .ensures) refl refl
 
 -- what was asked of the floor below
 asked : (c : tie.Else1) →
     let a = c .before .before .before .before .before .before .before .before .args in
     (askedVerdict formatOne (a .book .now) (a .entry) ≡ Fine) × (length (a .modules .now) ≡ nOf (a .book .now) (a .entry - 1)) ×
     (length (a .settings .now) ≡ nOf (a .book .now) (a .entry - 1))
-asked c = lent-fine _ _ _ _ _ (was-fine (c .before .before .judge-lent .ensures) (c .before .refuses .ensures) (c .if1 .left))
+asked c = lent-fine _ _ _ _ _ (was-fine (c .before .before .judge .ensures) (c .before .refuses .ensures) (c .if1 .left))
 
 slots-requires : tie.Need-slots-requires
 slots-requires c κs = asked c .0
@@ -80,14 +80,14 @@ returns-2 c =
     let written = c .before .before .before .before .before in
     let told = written .before .before .before in
     let passed = told .before .before in
-    done-leaves _ _ _ _ _ (passed .before .before .judge-lent .ensures) (passed .before .refuses .ensures) (passed .if1 .left)
-    (c .pack2 .ensures ∙ ap (λ x. packed (answerOf (passed .before .before .judge-lent .result) x)) (value-is told)) (written .write .ensures .0) (written .write .ensures .1)
+    done-leaves _ _ _ _ _ (passed .before .before .judge .ensures) (passed .before .refuses .ensures) (passed .if1 .left)
+    (c .pack2 .ensures ∙ ap (λ x. packed (answerOf (passed .before .before .judge .result) x)) (value-is told)) (written .write .ensures .0) (written .write .ensures .1)
 
 pub limpet-book-read-spec : {M : Type 1} → statement M
 limpet-book-read-spec =
     tie.close
     (tie.spec
-    judge-lent-requires
+    judge-requires
     refuses-requires
     pack-requires
     same-length

@@ -1,7 +1,7 @@
 -- `stretch::pair::turn` meets its contract: a slot behind the flip stays, and one before its end is turned. Assumes nothing.
 use mathlib.Core.Path.{sym, _∙_}
 use Rattle.rows.proofs.Cases.{if-lt, if-ge}
-use Rattle.arrangement.proofs.Flips.{source-front, source-behind}
+use Rattle.flip.proofs.Flips.{source-front, source-behind}
 use borrow.Author.Needs.{needs}
 use Rattle.stretch.proofs.pair.turn.Statement.{statement}
 use Rattle.stretch.proofs.pair.turn.Tie as tie

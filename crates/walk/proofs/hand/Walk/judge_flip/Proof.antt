@@ -1,7 +1,7 @@
 -- `walk::hand::Walk::judge_flip` meets its contract: it returns at the first check that refuses. Assumes nothing.
 use Rattle.rows.proofs.Cases.{below-range, above-range, in-range}
 use Rattle.sizes.proofs.Refusals.{stops, goes-on, last-faulty, last-faultless}
-use Rattle.arrangement.specs.Flip.{flipLengthVerdict}
+use Rattle.flip.specs.Flip.{flipLengthVerdict}
 use Rattle.walk.specs.Hand.{walkFlipVerdict}
 use borrow.Author.Needs.{needs}
 use Rattle.walk.proofs.hand.Walk.judge_flip.Statement.{statement}
