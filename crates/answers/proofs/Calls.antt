@@ -4,9 +4,15 @@
 use Prim.Native.Nat.{ℕ}
 use mathlib.Core.Path.{_≡_}
 use mathlib.Core.List.{List}
+use Rattle.flip.specs.Flip.{flipLeaves}
+use Rattle.unrank.specs.Unrank.{unrankLeaves}
+use Rattle.look.specs.Look.{nextLeaves}
+use Rattle.board.specs.Board.{boardLeaves}
 use Rattle.board.specs.Read.{rankRead}
+use Rattle.step.specs.Step.{stepLeaves}
+use Rattle.entry.specs.Entry.{entryLeaves}
 use Rattle.limpet.specs.Answer.{Returns, Leaves}
-use Rattle.limpet.specs.Calls.{roundReturns, totalReturns, checkReturns, flipLeaves, rankValueReturns, unrankLeaves, lookReturns, nextLeaves, boardLeaves, stepLeaves, ReadReturns, verdictShown, pairReturns, bookLeaves, bookCountReturns, bookRankReturns}
+use Rattle.limpet.specs.Calls.{roundReturns, totalReturns, checkReturns, rankValueReturns, lookReturns, ReadReturns, verdictShown, pairReturns, bookCountReturns, bookRankReturns}
 use Rattle.limpet.proofs.Answers.{one-number, one-outcome, one-read}
 
 -- ---- calls that write nothing
@@ -62,5 +68,5 @@ module _ {r s : ℕ} {a b c d : List ℕ} where
   pub one-board-step : (n k : ℕ) (cs fs : List ℕ) → Leaves (stepLeaves n k cs fs) r a b → Leaves (stepLeaves n k cs fs) s c d → (r ≡ s) × (a ≡ c) × (b ≡ d)
   one-board-step n k cs fs p q = one-outcome p q
 
-  pub one-book-read : (book : List ℕ) (entry : ℕ) (ms ss : List ℕ) → Leaves (bookLeaves book entry ms ss) r a b → Leaves (bookLeaves book entry ms ss) s c d → (r ≡ s) × (a ≡ c) × (b ≡ d)
+  pub one-book-read : (book : List ℕ) (entry : ℕ) (ms ss : List ℕ) → Leaves (entryLeaves book entry ms ss) r a b → Leaves (entryLeaves book entry ms ss) s c d → (r ≡ s) × (a ≡ c) × (b ≡ d)
   one-book-read book entry ms ss p q = one-outcome p q

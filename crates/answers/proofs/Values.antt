@@ -6,19 +6,24 @@ use mathlib.Core.Bool.{Bool}
 use mathlib.Core.List.{List}
 use Rattle.sizes.specs.declared.Verdict.{Verdict}
 use Rattle.sizes.specs.Refusal.{refuses}
+use Rattle.sizes.specs.Outcome.{Does}
 use Rattle.sizes.specs.Sizes.{sizesVerdict}
+use Rattle.sizes.proofs.Outcomes.{one-done}
 use Rattle.arrangement.specs.Check.{lentVerdict}
-use Rattle.flip.specs.Flip.{flipVerdict}
+use Rattle.flip.specs.Flip.{flipVerdict, flipLeaves}
 use Rattle.order.specs.Check.{startVerdict}
+use Rattle.unrank.specs.Unrank.{unrankLeaves}
+use Rattle.look.specs.Look.{nextLeaves}
+use Rattle.board.specs.Board.{boardLeaves}
 use Rattle.board.specs.Read.{Reads as ReadsBoard}
 use Rattle.board.specs.declared.read.Reading.{Reading}
 use Rattle.board.proofs.Readings.{one-reading}
-use Rattle.step.specs.Step.{lentStepVerdict}
+use Rattle.step.specs.Step.{lentStepVerdict, stepLeaves}
 use Rattle.stretch.specs.Stretch.{stretchVerdict}
 use Rattle.stretch.specs.Pair.{pairVerdict}
 use Rattle.walk.specs.declared.hand.Walk.{Walk}
 use Rattle.walk.specs.declared.hand.Made.{Made}
-use Rattle.walk.specs.declared.hand.Told.{Told}
+use Rattle.sizes.specs.declared.Told.{Told}
 use Rattle.walk.specs.declared.hand.Moved.{Moved}
 use Rattle.walk.specs.Hand.{walkVerdict, walkFlipVerdict, makes, tellsRank, tellsFlip, flips, movesOn}
 use Rattle.line.specs.Line.{Reads}
@@ -26,6 +31,7 @@ use Rattle.line.specs.declared.Line.{Line}
 use Rattle.line.proofs.Readings.{one-line}
 use Rattle.book.specs.Format.{formatOne}
 use Rattle.book.specs.Read.{bookVerdict, askedVerdict, lentEntryVerdict}
+use Rattle.entry.specs.Entry.{entryLeaves}
 
 -- two answers that equal the same are equal
 one-answer : {A : Type 0} {x r s : A} → r ≡ x → s ≡ x → r ≡ s
@@ -72,6 +78,27 @@ module _ {r s : Verdict} where
 
   pub one-walk-flip-check : (w : Walk) (j : ℕ) → r ≡ walkFlipVerdict w j → s ≡ walkFlipVerdict w j → r ≡ s
   one-walk-flip-check w j p q = one-answer p q
+
+-- ---- calls that write two buffers, of which a and b, or c and d, are the contents at the end
+
+module _ {r s : Told} {a b c d : List ℕ} where
+  pub one-lent-flip : (n k j : ℕ) (ms ss : List ℕ) → Does (flipLeaves n k j ms ss) r a b → Does (flipLeaves n k j ms ss) s c d → (r ≡ s) × (a ≡ c) × (b ≡ d)
+  one-lent-flip n k j ms ss p q = one-done p q
+
+  pub one-lent-unrank : (n k rank : ℕ) (ms ss : List ℕ) → Does (unrankLeaves n k rank ms ss) r a b → Does (unrankLeaves n k rank ms ss) s c d → (r ≡ s) × (a ≡ c) × (b ≡ d)
+  one-lent-unrank n k rank ms ss p q = one-done p q
+
+  pub one-lent-next : (n k : ℕ) (ms ss : List ℕ) → Does (nextLeaves n k ms ss) r a b → Does (nextLeaves n k ms ss) s c d → (r ≡ s) × (a ≡ c) × (b ≡ d)
+  one-lent-next n k ms ss p q = one-done p q
+
+  pub one-lent-board : (n k rank : ℕ) (cs fs : List ℕ) → Does (boardLeaves n k rank cs fs) r a b → Does (boardLeaves n k rank cs fs) s c d → (r ≡ s) × (a ≡ c) × (b ≡ d)
+  one-lent-board n k rank cs fs p q = one-done p q
+
+  pub one-lent-step : (n k : ℕ) (cs fs : List ℕ) → Does (stepLeaves n k cs fs) r a b → Does (stepLeaves n k cs fs) s c d → (r ≡ s) × (a ≡ c) × (b ≡ d)
+  one-lent-step n k cs fs p q = one-done p q
+
+  pub one-lent-reading : (book : List ℕ) (entry : ℕ) (ms ss : List ℕ) → Does (entryLeaves book entry ms ss) r a b → Does (entryLeaves book entry ms ss) s c d → (r ≡ s) × (a ≡ c) × (b ≡ d)
+  one-lent-reading book entry ms ss p q = one-done p q
 
 -- ---- the walk in hand
 

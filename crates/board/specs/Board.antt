@@ -6,6 +6,8 @@ use mathlib.Core.Bool.{Bool, true, false, not, cond}
 use mathlib.Core.List.{List}
 use lib.Dec.{ltb, eqb}
 use Rattle.rows.specs.Row.{at, row}
+use Rattle.sizes.specs.Outcome.{Outcome, outcome}
+use Rattle.order.specs.Check.{lentRankVerdict}
 use Rattle.order.specs.Digits.{digit}
 
 -- c_j, f_j or d_j of a row
@@ -48,3 +50,8 @@ pointers n k d = row (λ i. pointer n k d (suc i)) (suc n)
 pub record IsBoard (n k r : ℕ) (cs fs : List ℕ) : Type 0 where
   pub counters-are : cs ≡ counters n k (digit k r)
   pub pointers-are : fs ≡ pointers n k (digit k r)
+
+-- what the writing of the board of a rank leaves
+unfoldable pub boardLeaves : ℕ → ℕ → ℕ → List ℕ → List ℕ → Outcome
+boardLeaves n k r cs fs =
+    outcome (lentRankVerdict n k r cs 1 fs) 0 cs fs (counters n k (digit k r)) (pointers n k (digit k r))

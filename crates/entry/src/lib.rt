@@ -2,15 +2,18 @@
 // book that has been checked.
 use book::format;
 use sizes::MOST_SLOTS;
+use sizes::Told;
 use sizes::Verdict;
 ghost use mathlib.Core.Path.{_≡_};
 ghost use Prim.Native.Nat.{_-_, _≤_};
 ghost use lib.ListN.{length};
 ghost use Rattle.rows.specs.Row.{row};
+ghost use Rattle.sizes.specs.Outcome.{Does};
 ghost use Rattle.sizes.specs.Sizes.{mostSlots, mostSettings};
 ghost use Rattle.sizes.specs.declared.Verdict.the-variants.{Fine};
 ghost use Rattle.book.specs.Format.{formatOne};
 ghost use Rattle.book.specs.Read.{nOf, kOf, countOf, expected, rankOf, modulesOf, settingsOf, askedVerdict, lentEntryVerdict};
+ghost use Rattle.entry.specs.Entry.{entryLeaves};
 
 // n, how many slots there are.
 pub fn slots(book: &[u8], entry: usize) -> usize
@@ -81,4 +84,23 @@ pub fn rank(book: &[u8], entry: usize) -> u64
     let mut slot_settings = [0u8; MOST_SLOTS];
     write(book, entry, &mut modules[..n], &mut slot_settings[..n]);
     rank::rank(n, settings(book, entry), &modules[..n], &slot_settings[..n])
+}
+
+// The reading of any bytes as a book, for any entry asked for, into any two lent buffers; n and k are
+// its number.
+pub fn read_lent(book: &[u8], entry: usize, modules: &mut [u8], settings: &mut [u8]) -> Told
+    ensures { λ r. ⌜ Does (entryLeaves (now (book .entry)) entry (now (modules .entry)) (now (settings .entry))) r (now (modules .exit)) (now (settings .exit)) ⌝ }
+{
+    let verdict = judge(book, entry, modules, settings);
+    if verdict.refuses() {
+        return Told { verdict, number: 0 };
+    }
+    let n = slots(book, entry);
+    let k = crate::settings(book, entry);
+    write(book, entry, modules, settings);
+    let number = n + 256 * k;
+    Told {
+        verdict,
+        number: number as u64,
+    }
 }

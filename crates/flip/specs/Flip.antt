@@ -3,10 +3,11 @@
 use Prim.Native.Nat.{ℕ, suc, _+_, _-_, _%_, _≤_, _<_}
 use mathlib.Core.List.{List}
 use lib.ListN.{length}
-use Rattle.rows.specs.Row.{at}
+use Rattle.rows.specs.Row.{at, row}
 use Rattle.rows.specs.Search.{ifLt, outside}
 use Rattle.sizes.specs.declared.Verdict.{Verdict}
 use Rattle.sizes.specs.Refusal.{first, refusedIf}
+use Rattle.sizes.specs.Outcome.{Outcome, outcome}
 use Rattle.sizes.specs.Sizes.{mostSlots, mostSettings}
 use Rattle.arrangement.specs.Check.{lentVerdict}
 
@@ -40,3 +41,8 @@ flipLengthVerdict n j = refusedIf 9 (outside 1 n j)
 -- the check of a flip of length j of an arrangement in two lent buffers: 1 to 7, and 9
 unfoldable pub flipVerdict : ℕ → ℕ → ℕ → List ℕ → List ℕ → Verdict
 flipVerdict n k j ms ss = first (lentVerdict n k ms ss) (flipLengthVerdict n j)
+
+-- what a flip leaves: the arrangement flipped
+unfoldable pub flipLeaves : ℕ → ℕ → ℕ → List ℕ → List ℕ → Outcome
+flipLeaves n k j ms ss =
+    outcome (flipVerdict n k j ms ss) 0 ms ss (row (flippedModules j (at ms)) n) (row (flippedSettings k j (at ss)) n)

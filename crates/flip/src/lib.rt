@@ -2,14 +2,16 @@
 use arrangement::check;
 use rows::copy;
 use rows::copy::WIDE;
+use sizes::Told;
 use sizes::Verdict;
 ghost use mathlib.Core.Path.{_≡_};
 ghost use Prim.Native.Nat.{_≤_, _<_};
 ghost use lib.ListN.{length};
 ghost use Rattle.rows.specs.Row.{at, row, front};
+ghost use Rattle.sizes.specs.Outcome.{Does};
 ghost use Rattle.sizes.specs.Sizes.{mostSettings};
 ghost use Rattle.rows.specs.Copy.{blank};
-ghost use Rattle.flip.specs.Flip.{raised, flippedModules, flippedSettings, flipVerdict, Flippable};
+ghost use Rattle.flip.specs.Flip.{raised, flippedModules, flippedSettings, flipVerdict, flipLeaves, Flippable};
 
 // The check of any n and k, of an arrangement in any two lent buffers and of any length of a flip.
 pub fn judge(n: usize, k: usize, j: usize, modules: &[u8], settings: &[u8]) -> Verdict
@@ -74,4 +76,16 @@ pub fn flip(k: usize, j: usize, modules: &mut [u8], settings: &mut [u8])
     let turned_settings = turned.settings;
     copy::store(j, turned_modules, modules);
     copy::store(j, turned_settings, settings);
+}
+
+// The flip of any arrangement in any two lent buffers.
+pub fn flip_lent(n: usize, k: usize, j: usize, modules: &mut [u8], settings: &mut [u8]) -> Told
+    ensures { λ r. ⌜ Does (flipLeaves n k j (now (modules .entry)) (now (settings .entry))) r (now (modules .exit)) (now (settings .exit)) ⌝ }
+{
+    let verdict = judge(n, k, j, modules, settings);
+    if verdict.refuses() {
+        return Told { verdict, number: 0 };
+    }
+    flip(k, j, modules, settings);
+    Told { verdict, number: 0 }
 }

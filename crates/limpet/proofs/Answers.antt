@@ -3,20 +3,21 @@
 -- Assumes nothing.
 use Prim.Native.Nat.{ℕ, _+_, _*_, _^_, _/_, _%_, _≤_, _<_}
 use mathlib.Core.Path.{_≡_, refl, sym, _∙_, ap, ap₂}
-use mathlib.Core.Bool.{Bool, true, false, cond}
-use mathlib.Core.List.{List, []}
+use mathlib.Core.Bool.{Bool, true, false}
+use mathlib.Core.List.{List}
 use native.Mathlib.Omega.{arith}
 use lib.Arith.{digits-div, digits-mod}
-use Rattle.rows.proofs.Cases.{by-test}
 use Rattle.sizes.specs.declared.Verdict.{Verdict}
 use Rattle.sizes.specs.declared.Verdict.the-variants.{Fine, Refused}
+use Rattle.sizes.specs.declared.Told.{Told}
 use Rattle.sizes.specs.Refusal.{refuses, numberOf, placeOf, unlessRefused}
-use Rattle.sizes.proofs.Refusals.{was-fine, Small}
-use Rattle.step.specs.Step.{stepFlip, closes}
+use Rattle.sizes.specs.Outcome.{Outcome, Does}
+use Rattle.sizes.proofs.Refusals.{Small}
+use Rattle.sizes.proofs.Outcomes.{told-high}
 use Rattle.board.specs.declared.read.Reading.{Reading}
 use Rattle.board.proofs.Readings.{one-reading}
-use Rattle.limpet.specs.Calls.{stepValue, ReadReturns}
-use Rattle.limpet.specs.Answer.{Answer, answerOf, packed, unpacked, left, Outcome, outcome, Returns, Leaves}
+use Rattle.limpet.specs.Calls.{ReadReturns}
+use Rattle.limpet.specs.Answer.{Answer, answerOf, packed, unpacked, Returns, Leaves}
 
 -- ---- one outcome
 
@@ -74,36 +75,21 @@ pub judged : {v check : Verdict} {r x value : ℕ} → v ≡ check → x ≡ val
 judged v-is x-is r-is = record { returned-is = r-is ∙ ap₂ (λ (w : Verdict) (y : ℕ). packed (answerOf w y)) v-is x-is }
 
 -- a call that was refused, as t told: whatever value was packed with the verdict v, none shows
-pub refused-leaves : {v check : Verdict} {t : Bool} {r : ℕ} {a b : List ℕ} (value x : ℕ) (one two one-written two-written : List ℕ) →
-    v ≡ check → t ≡ refuses v → t ≡ true → r ≡ packed (answerOf v x) → a ≡ one → b ≡ two → Leaves (outcome check value one two one-written two-written) r a b
-unfolding refuses outcome left answerOf unlessRefused
-refused-leaves {v = Fine} value x one two one-written two-written v-is t-is t-true r-is a-is b-is =
+pub refused-returns : {v check : Verdict} {t : Bool} {r : ℕ} (value x : ℕ) → v ≡ check → t ≡ refuses v → t ≡ true → r ≡ packed (answerOf v x) → Returns (packed (answerOf check value)) r
+unfolding refuses answerOf unlessRefused
+refused-returns {v = Fine} value x v-is t-is t-true r-is =
     let z : _≡_ {A = Bool} true false = sym t-true ∙ t-is in
     let n : _≡_ {A = ℕ} 0 1 = cc in absurd (omega arith)
-refused-leaves {v = Refused number place} value x one two one-written two-written v-is t-is t-true r-is a-is b-is =
-    rw (← v-is) (record { returned-is = r-is; one-is = a-is; two-is = b-is })
+refused-returns {v = Refused number place} value x v-is t-is t-true r-is = rw (← v-is) (record { returned-is = r-is })
 
--- the same of a call that writes nothing
-pub refused-returns : {v check : Verdict} {t : Bool} {r : ℕ} (value x : ℕ) → v ≡ check → t ≡ refuses v → t ≡ true → r ≡ packed (answerOf v x) → Returns (packed (answerOf check value)) r
-unfolding outcome
-refused-returns value x v-is t-is t-true r-is =
-    record { returned-is = refused-leaves value x [] [] [] [] v-is t-is t-true r-is refl refl .returned-is }
+-- a call that writes leaves what the floor below left, with its answer packed
+pub does-leaves : {o : Outcome} {told : Told} {r : ℕ} {a b : List ℕ} → Does o told a b → r ≡ packed (answerOf (told .verdict) (told .number)) → Leaves o r a b
+does-leaves does r-is = record {
+  returned-is = r-is ∙ ap₂ (λ (w : Verdict) (y : ℕ). packed (answerOf w y)) (does .verdict-is) (does .number-is);
+  one-is = does .one-is;
+  two-is = does .two-is;
+}
 
--- a call that was done
-pub done-leaves : {v check : Verdict} {t : Bool} {r : ℕ} {a b : List ℕ} (value : ℕ) (one two one-written two-written : List ℕ) →
-    v ≡ check → t ≡ refuses v → t ≡ false → r ≡ packed (answerOf v value) → a ≡ one-written → b ≡ two-written →
-    Leaves (outcome check value one two one-written two-written) r a b
-unfolding outcome left
-done-leaves {v} {check} value one two one-written two-written v-is t-is t-false r-is a-is b-is =
-    let fine = was-fine v-is t-is t-false in
-    let returned = r-is ∙ ap (λ w. packed (answerOf w value)) v-is in
-    record { returned-is = returned; one-is = a-is ∙ rw fine; two-is = b-is ∙ rw fine }
-
--- the value of a step, from the flip f and whether the round closed, b
-pub step-value-is : (n k : ℕ) (fs : List ℕ) {v f : ℕ} {b : Bool} → v ≡ f + cond b 256 0 → f ≡ stepFlip n k fs → b ≡ closes n k fs → v ≡ stepValue n k fs
-unfolding stepValue
-step-value-is n k fs v-is f-is b-is = v-is ∙ ap₂ (λ (x : ℕ) (y : Bool). x + cond y 256 0) f-is b-is
-
--- it is at most 256 more than the flip
-pub step-value-high : {v f g : ℕ} {b d : Bool} → v ≡ f + cond b 256 0 → f ≡ g → b ≡ d → v ≤ g + 256
-step-value-high {v} {f} {g} {b} e f-is b-is = by-test b (λ t. omega (arith, rw t at e)) (λ t. omega (arith, rw t at e))
+-- its number fits the bits above the place, where it is at most so much in a call that was done
+pub number-fits : {v : Verdict} {x number : ℕ} (most : ℕ) → number ≡ unlessRefused v x → (v ≡ Fine → x ≤ most) → most < 2 ^ 48 → number < 2 ^ 48
+number-fits {v} {x} most is high fits = omega (arith, is, told-high v x most high)

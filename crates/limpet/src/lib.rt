@@ -1,5 +1,5 @@
-// What C calls: plain numbers and lent byte buffers in, one number back. Each function here checks,
-// calls a floor below, and packs its answer; none has a `requires`.
+// What C calls: plain numbers and lent byte buffers in, one number back. Each function here asks a floor
+// below and packs its answer; none has a `requires`.
 mod answer;
 pub mod of_arrangements;
 pub mod of_boards;

@@ -1,7 +1,9 @@
 // What C asks of an arrangement, and one flip of it.
 use crate::answer::pack;
+use crate::answer::pack_told;
 ghost use Rattle.limpet.specs.Answer.{Returns, Leaves};
-ghost use Rattle.limpet.specs.Calls.{checkReturns, flipLeaves};
+ghost use Rattle.flip.specs.Flip.{flipLeaves};
+ghost use Rattle.limpet.specs.Calls.{checkReturns};
 
 #[no_mangle]
 pub extern "C" fn limpet_check(n: usize, k: usize, modules: &[u8], settings: &[u8]) -> u64
@@ -20,10 +22,5 @@ pub extern "C" fn limpet_flip(
 ) -> u64
     ensures { λ r. ⌜ Leaves (flipLeaves n k j (now (modules .entry)) (now (settings .entry))) r (now (modules .exit)) (now (settings .exit)) ⌝ }
 {
-    let verdict = flip::judge(n, k, j, modules, settings);
-    if verdict.refuses() {
-        return pack(verdict, 0);
-    }
-    flip::flip(k, j, modules, settings);
-    pack(verdict, 0)
+    pack_told(flip::flip_lent(n, k, j, modules, settings))
 }

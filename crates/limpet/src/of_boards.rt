@@ -1,13 +1,11 @@
 // What C asks of counter boards: the board of a rank, one step, and the rank of a board.
 use crate::answer::pack;
-use step::Stepped;
-ghost use mathlib.Core.Path.{_≡_};
-ghost use mathlib.Core.Bool.{cond};
-ghost use Prim.Native.Nat.{_+_, _≤_};
-ghost use Rattle.sizes.specs.Sizes.{mostSlots};
+use crate::answer::pack_told;
 ghost use Rattle.limpet.specs.Answer.{Leaves};
 ghost use Rattle.board.specs.Read.{rankRead};
-ghost use Rattle.limpet.specs.Calls.{boardLeaves, stepLeaves, ReadReturns, verdictShown};
+ghost use Rattle.board.specs.Board.{boardLeaves};
+ghost use Rattle.step.specs.Step.{stepLeaves};
+ghost use Rattle.limpet.specs.Calls.{ReadReturns, verdictShown};
 
 #[no_mangle]
 pub extern "C" fn limpet_board_write(
@@ -19,21 +17,7 @@ pub extern "C" fn limpet_board_write(
 ) -> u64
     ensures { λ r. ⌜ Leaves (boardLeaves n k rank (now (counters .entry)) (now (pointers .entry))) r (now (counters .exit)) (now (pointers .exit)) ⌝ }
 {
-    let verdict = rank::check::judge(n, k, rank, counters, 1, pointers);
-    if verdict.refuses() {
-        return pack(verdict, 0);
-    }
-    board::write::write(n, k, rank, counters, pointers);
-    pack(verdict, 0)
-}
-
-// The value of a step: the flip, and 256 where the round closed.
-fn step_value(stepped: Stepped) -> u64
-    requires { ⌜ stepped .flip ≤ mostSlots ⌝ }
-    ensures { λ r. ⌜ r ≡ stepped .flip + cond (stepped .closed) 256 0 ⌝ }
-{
-    let flip = stepped.flip as u64;
-    if stepped.closed { flip + 256 } else { flip }
+    pack_told(board::write::write_lent(n, k, rank, counters, pointers))
 }
 
 #[no_mangle]
@@ -45,12 +29,7 @@ pub extern "C" fn limpet_board_step(
 ) -> u64
     ensures { λ r. ⌜ Leaves (stepLeaves n k (now (counters .entry)) (now (pointers .entry))) r (now (counters .exit)) (now (pointers .exit)) ⌝ }
 {
-    let verdict = step::judge(n, k, counters, pointers);
-    if verdict.refuses() {
-        return pack(verdict, 0);
-    }
-    let stepped = step::step(n, k, counters, pointers);
-    pack(verdict, step_value(stepped))
+    pack_told(step::step_lent(n, k, counters, pointers))
 }
 
 #[no_mangle]

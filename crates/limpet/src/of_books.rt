@@ -1,7 +1,8 @@
 // What C asks of stretch books: an entry of a book, its count, and the rank of its arrangement.
-use crate::answer::pack;
+use crate::answer::pack_told;
 ghost use Rattle.limpet.specs.Answer.{Returns, Leaves};
-ghost use Rattle.limpet.specs.Calls.{bookLeaves, bookCountReturns, bookRankReturns};
+ghost use Rattle.entry.specs.Entry.{entryLeaves};
+ghost use Rattle.limpet.specs.Calls.{bookCountReturns, bookRankReturns};
 
 #[no_mangle]
 pub extern "C" fn limpet_book_read(
@@ -10,16 +11,9 @@ pub extern "C" fn limpet_book_read(
     modules: &mut [u8],
     settings: &mut [u8],
 ) -> u64
-    ensures { λ r. ⌜ Leaves (bookLeaves (now (book .entry)) entry (now (modules .entry)) (now (settings .entry))) r (now (modules .exit)) (now (settings .exit)) ⌝ }
+    ensures { λ r. ⌜ Leaves (entryLeaves (now (book .entry)) entry (now (modules .entry)) (now (settings .entry))) r (now (modules .exit)) (now (settings .exit)) ⌝ }
 {
-    let verdict = entry::judge(book, entry, modules, settings);
-    if verdict.refuses() {
-        return pack(verdict, 0);
-    }
-    let n = entry::slots(book, entry);
-    let k = entry::settings(book, entry);
-    entry::write(book, entry, modules, settings);
-    pack(verdict, (n + 256 * k) as u64)
+    pack_told(entry::read_lent(book, entry, modules, settings))
 }
 
 #[no_mangle]

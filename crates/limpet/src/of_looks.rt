@@ -1,7 +1,9 @@
 // What C asks of looking: the flip out of an arrangement, and the next arrangement.
 use crate::answer::pack;
+use crate::answer::pack_told;
 ghost use Rattle.limpet.specs.Answer.{Returns, Leaves};
-ghost use Rattle.limpet.specs.Calls.{lookReturns, nextLeaves};
+ghost use Rattle.look.specs.Look.{nextLeaves};
+ghost use Rattle.limpet.specs.Calls.{lookReturns};
 
 #[no_mangle]
 pub extern "C" fn limpet_look(n: usize, k: usize, modules: &[u8], settings: &[u8]) -> u64
@@ -18,10 +20,5 @@ pub extern "C" fn limpet_look(n: usize, k: usize, modules: &[u8], settings: &[u8
 pub extern "C" fn limpet_next(n: usize, k: usize, modules: &mut [u8], settings: &mut [u8]) -> u64
     ensures { λ r. ⌜ Leaves (nextLeaves n k (now (modules .entry)) (now (settings .entry))) r (now (modules .exit)) (now (settings .exit)) ⌝ }
 {
-    let verdict = arrangement::check::judge(n, k, modules, settings);
-    if verdict.refuses() {
-        return pack(verdict, 0);
-    }
-    let j = look::next(n, k, modules, settings);
-    pack(verdict, j as u64)
+    pack_told(look::next_lent(n, k, modules, settings))
 }

@@ -1,8 +1,9 @@
 // What C asks of ranks: the rank of an arrangement, and the arrangement of a rank.
-use crate::answer::pack;
+use crate::answer::pack_told;
 use crate::of_arrangements::limpet_check;
 ghost use Rattle.limpet.specs.Answer.{Returns, Leaves};
-ghost use Rattle.limpet.specs.Calls.{checkReturns, rankValueReturns, unrankLeaves};
+ghost use Rattle.limpet.specs.Calls.{checkReturns, rankValueReturns};
+ghost use Rattle.unrank.specs.Unrank.{unrankLeaves};
 
 #[no_mangle]
 pub extern "C" fn limpet_rank(n: usize, k: usize, modules: &[u8], settings: &[u8]) -> u64
@@ -31,10 +32,5 @@ pub extern "C" fn limpet_unrank(
 ) -> u64
     ensures { λ r. ⌜ Leaves (unrankLeaves n k rank (now (modules .entry)) (now (settings .entry))) r (now (modules .exit)) (now (settings .exit)) ⌝ }
 {
-    let verdict = rank::check::judge(n, k, rank, modules, 0, settings);
-    if verdict.refuses() {
-        return pack(verdict, 0);
-    }
-    unrank::write(n, k, rank, modules, settings);
-    pack(verdict, 0)
+    pack_told(unrank::write_lent(n, k, rank, modules, settings))
 }

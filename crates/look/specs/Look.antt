@@ -3,9 +3,13 @@
 -- itself, and each has the setting that goes with it. The flip turns the slots that fall.
 use Prim.Native.Nat.{ℕ, suc, _+_, _-_}
 use mathlib.Core.Bool.{Bool, true, cond}
+use mathlib.Core.List.{List}
 use lib.Dec.{eqb, leb}
+use Rattle.rows.specs.Row.{at, row}
 use Rattle.rows.specs.Search.{ifLt, orElse, lowest}
-use Rattle.flip.specs.Flip.{raised}
+use Rattle.sizes.specs.Outcome.{Outcome, outcome}
+use Rattle.arrangement.specs.Check.{lentVerdict}
+use Rattle.flip.specs.Flip.{raised, flippedModules, flippedSettings}
 
 -- ---- with a:s in front
 
@@ -28,3 +32,11 @@ stops n k M S i =
 -- the length of the flip: the lowest slot, counted from 1, behind which the slots stop falling, or n where there is none
 unfoldable pub look : ℕ → ℕ → (ℕ → ℕ) → (ℕ → ℕ) → ℕ
 look n k M S = orElse (lowest (stops n k M S) (n - 1)) n
+
+-- ---- the next arrangement
+
+-- what its making leaves: the flip is made, and its length is the number
+unfoldable pub nextLeaves : ℕ → ℕ → List ℕ → List ℕ → Outcome
+nextLeaves n k ms ss =
+    let j : ℕ = look n k (at ms) (at ss) in
+    outcome (lentVerdict n k ms ss) j ms ss (row (flippedModules j (at ms)) n) (row (flippedSettings k j (at ss)) n)

@@ -1,13 +1,15 @@
 // The flip by looking, and the next arrangement. It looks from slot to slot and stops where the slots
 // stop falling, so it costs as many slots as the flip is long.
+use sizes::Told;
 ghost use mathlib.Core.Path.{_≡_};
 ghost use Prim.Native.Nat.{_≤_};
 ghost use Rattle.rows.specs.Row.{at, row};
 ghost use Rattle.rows.specs.Search.{ifLt};
+ghost use Rattle.sizes.specs.Outcome.{Does};
 ghost use Rattle.sizes.specs.Sizes.{mostSlots};
 ghost use Rattle.flip.specs.Flip.{flippedModules, flippedSettings};
 ghost use Rattle.order.specs.Asked.{LentAsked};
-ghost use Rattle.look.specs.Look.{offset, look};
+ghost use Rattle.look.specs.Look.{offset, look, nextLeaves};
 
 // How far down from module a the module v is.
 fn offset(n: usize, a: usize, v: usize) -> usize
@@ -62,4 +64,19 @@ pub fn next(n: usize, k: usize, modules: &mut [u8], settings: &mut [u8]) -> usiz
     let j = look(n, k, modules, settings);
     flip::flip(k, j, modules, settings);
     j
+}
+
+// The next of any arrangement in any two lent buffers, and the length of the flip.
+pub fn next_lent(n: usize, k: usize, modules: &mut [u8], settings: &mut [u8]) -> Told
+    ensures { λ r. ⌜ Does (nextLeaves n k (now (modules .entry)) (now (settings .entry))) r (now (modules .exit)) (now (settings .exit)) ⌝ }
+{
+    let verdict = arrangement::check::judge(n, k, modules, settings);
+    if verdict.refuses() {
+        return Told { verdict, number: 0 };
+    }
+    let j = next(n, k, modules, settings);
+    Told {
+        verdict,
+        number: j as u64,
+    }
 }

@@ -21,6 +21,12 @@ impl Verdict {
     }
 }
 
+// What a call answers: its verdict, and a number that was asked for, 0 where it was refused or has none.
+pub struct Told {
+    pub verdict: Verdict,
+    pub number: u64,
+}
+
 pub const MOST_SLOTS: usize = 20;
 
 pub const MOST_SETTINGS: usize = 8;

@@ -1,7 +1,7 @@
 -- What the checks of a step come to, one comparison after the other, and what a step that is not refused may rely on. Each
 -- comparison decides one test of the definition. Assumes nothing.
 use mathlib.Core.Path.{_≡_, refl, sym, ap, ap₂, _∙_}
-use mathlib.Core.Bool.{true, false}
+use mathlib.Core.Bool.{Bool, true, false, cond}
 use mathlib.Core.Logic.{_≢_}
 use mathlib.Core.List.{List}
 use Prim.Native.Nat.{ℕ, suc, _+_, _-_, _*_, _≤_, _<_}
@@ -21,7 +21,7 @@ use Rattle.sizes.proofs.Refusals.{faulty, faultless, last-faulty, last-faultles
 use Rattle.arrangement.specs.Check.{buffersVerdict}
 use Rattle.arrangement.proofs.Validity.{fit, small-buffers}
 use Rattle.board.specs.Board.{place, lowestDigit}
-use Rattle.step.specs.Step.{put, pointed, closes, stepFlip, fills, counterVerdict, stepVerdict, lentStepVerdict, steppedCounters, steppedPointers}
+use Rattle.step.specs.Step.{put, pointed, closes, stepFlip, fills, counterVerdict, stepVerdict, lentStepVerdict, steppedCounters, steppedPointers, stepNumber}
 use Rattle.step.specs.Asked.{StepAsked}
 use Rattle.board.proofs.Runs.{lowest-range}
 use Rattle.board.proofs.Checks.{lent-board}
@@ -254,3 +254,16 @@ pointed-digit n k cs fs {s} {x} asked s-is x-is within =
       counters = omega (arith, lent .counters);
       pointers = omega (arith, lent .pointers);
     }
+
+-- ---- the flip f and whether the round closed, b, as one number
+
+pub step-number-is : (n k : ℕ) (fs : List ℕ) {v f : ℕ} {b : Bool} → v ≡ f + cond b 256 0 → f ≡ stepFlip n k fs → b ≡ closes n k fs → v ≡ stepNumber n k fs
+unfolding stepNumber
+step-number-is n k fs v-is f-is b-is = v-is ∙ ap₂ (λ (x : ℕ) (y : Bool). x + cond y 256 0) f-is b-is
+
+-- it is at most 256 more than the flip
+pub step-number-high : {n k : ℕ} {cs fs : List ℕ} → StepAsked n k cs fs → stepNumber n k fs ≤ mostSlots + 256
+unfolding stepNumber
+step-number-high {n} {k} {cs} {fs} asked =
+    let flip-high = step-flip-high asked in
+    by-test (closes n k fs) (λ t. rw t (omega (arith, asked .lent .sizes .n-high))) (λ t. rw t (omega (arith, asked .lent .sizes .n-high)))

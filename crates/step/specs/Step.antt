@@ -1,5 +1,5 @@
 -- 01, "The counter board": one step of a board, true or false. It reads x = f_s; x is n + 1 where the round closes.
-use Prim.Native.Nat.{ℕ, suc, _-_, _*_}
+use Prim.Native.Nat.{ℕ, suc, _+_, _-_, _*_}
 use mathlib.Core.Bool.{Bool, cond}
 use mathlib.Core.List.{List}
 use lib.Dec.{leb, eqb}
@@ -8,6 +8,7 @@ use Rattle.rows.specs.Search.{outside}
 use Rattle.sizes.specs.declared.Verdict.{Verdict}
 use Rattle.sizes.specs.declared.Verdict.the-variants.{Fine}
 use Rattle.sizes.specs.Refusal.{first, refusedIf}
+use Rattle.sizes.specs.Outcome.{Outcome, outcome}
 use Rattle.arrangement.specs.Check.{buffersVerdict}
 use Rattle.board.specs.Board.{place, lowestDigit}
 
@@ -61,3 +62,12 @@ steppedPointers n k cs fs =
 -- the check of n and k, of two lent buffers of n and n + 1 bytes, and of the step: 1 to 4, and 10
 unfoldable pub lentStepVerdict : ℕ → ℕ → List ℕ → List ℕ → Verdict
 lentStepVerdict n k cs fs = first (buffersVerdict n k cs 1 fs) (stepVerdict n k cs fs)
+
+-- the flip and whether the round closed, as one number: the flip in its lowest 8 bits, and the round in the next
+unfoldable pub stepNumber : ℕ → ℕ → List ℕ → ℕ
+stepNumber n k fs = stepFlip n k fs + cond (closes n k fs) 256 0
+
+-- what a step leaves
+unfoldable pub stepLeaves : ℕ → ℕ → List ℕ → List ℕ → Outcome
+stepLeaves n k cs fs =
+    outcome (lentStepVerdict n k cs fs) (stepNumber n k fs) cs fs (steppedCounters n k cs fs) (steppedPointers n k cs fs)

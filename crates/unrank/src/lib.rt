@@ -2,15 +2,18 @@
 // before it have their renaming undone, where they stand.
 use rows::copy;
 use rows::copy::WIDE;
+use sizes::Told;
 ghost use mathlib.Core.Path.{_≡_};
 ghost use Prim.Native.Nat.{suc, _+_, _/_, _≤_, _<_};
 ghost use lib.ListN.{set};
 ghost use Rattle.rows.specs.Row.{at, row};
 ghost use Rattle.rows.specs.Search.{ifLt};
+ghost use Rattle.sizes.specs.Outcome.{Does};
 ghost use Rattle.sizes.specs.Sizes.{weight, mostSlots, mostSettings};
 ghost use Rattle.rows.specs.Copy.{wide};
 ghost use Rattle.order.specs.Rank.{raisedBy, restoredModule, restoredSetting, unrankModules, unrankSettings};
 ghost use Rattle.order.specs.Asked.{RestoreAsked, UnrankAsked, Unranked, WriteAsked};
+ghost use Rattle.unrank.specs.Unrank.{unrankLeaves};
 
 // A setting raised by d: a comparison does what a remainder would.
 fn raise(k: u8, setting: u8, d: u8) -> u8
@@ -107,4 +110,16 @@ pub fn write(n: usize, k: usize, rank: u64, modules: &mut [u8], settings: &mut [
     unrank_slots(n, k, rank, &mut new_modules, &mut new_settings);
     copy::store(n, new_modules, modules);
     copy::store(n, new_settings, settings);
+}
+
+// Writes the arrangement of any rank into any two lent buffers.
+pub fn write_lent(n: usize, k: usize, rank: u64, modules: &mut [u8], settings: &mut [u8]) -> Told
+    ensures { λ r. ⌜ Does (unrankLeaves n k rank (now (modules .entry)) (now (settings .entry))) r (now (modules .exit)) (now (settings .exit)) ⌝ }
+{
+    let verdict = rank::check::judge(n, k, rank, modules, 0, settings);
+    if verdict.refuses() {
+        return Told { verdict, number: 0 };
+    }
+    write(n, k, rank, modules, settings);
+    Told { verdict, number: 0 }
 }

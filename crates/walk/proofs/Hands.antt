@@ -29,7 +29,7 @@ use Rattle.look.specs.Look.{stops, look}
 use Rattle.walk.specs.Hand.{walkVerdict, walkFlipVerdict, walkLeft}
 use Rattle.walk.specs.declared.hand.Walk.{Walk}
 use Rattle.walk.specs.declared.hand.Made.{Made}
-use Rattle.walk.specs.declared.hand.Told.{Told}
+use Rattle.sizes.specs.declared.Told.{Told}
 use Rattle.walk.specs.Asked.{PlacesAsked}
 
 -- ---- arrangements that agree on n slots

@@ -16,7 +16,7 @@ use Rattle.order.specs.Check.{startVerdict}
 use Rattle.look.specs.Look.{look}
 use Rattle.walk.specs.declared.hand.Walk.{Walk}
 use Rattle.walk.specs.declared.hand.Made.{Made}
-use Rattle.walk.specs.declared.hand.Told.{Told}
+use Rattle.sizes.specs.declared.Told.{Told}
 use Rattle.walk.specs.declared.hand.Moved.{Moved}
 
 -- ---- the checks

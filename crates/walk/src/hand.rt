@@ -2,6 +2,7 @@
 // for settings; those behind n are never looked at, and stay. A refused walk comes back as it was
 // given.
 use arrangement::check;
+use sizes::Told;
 use sizes::Verdict;
 ghost use mathlib.Core.Path.{_≡_};
 ghost use Prim.Native.Nat.{_≤_, _<_};
@@ -26,12 +27,6 @@ pub struct Walk {
 pub struct Made {
     pub verdict: Verdict,
     pub walk: Walk,
-}
-
-// A verdict, and a number that was asked for.
-pub struct Told {
-    pub verdict: Verdict,
-    pub number: u64,
 }
 
 // A verdict, the flip that was made, and the walk after it.

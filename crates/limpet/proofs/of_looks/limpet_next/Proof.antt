@@ -1,82 +1,38 @@
--- `limpet_next` keeps its promise: where the verdict refuses nothing is written, and else the flip found by looking is made.
--- Assumes nothing.
-use mathlib.Core.Path.{refl, sym, _∙_, ap}
+-- `limpet_next` keeps its promise: it packs what the floor below answers, and a flip is at most 20 long. Assumes nothing.
+use mathlib.Core.Path.{refl, _∙_, ap, sym}
 use native.Mathlib.Omega.{arith}
+use borrow.Author.Needs.{needs}
 use lib.ListN.{length}
 use Rattle.rows.proofs.Rows.{length-row}
-use Rattle.sizes.proofs.Refusals.{was-fine}
-use Rattle.order.specs.Asked.{LentAsked}
+use Rattle.sizes.specs.Outcome.{outcome}
+use Rattle.sizes.proofs.Outcomes.{left-long}
+use Rattle.sizes.specs.Sizes.{mostSlots}
 use Rattle.order.proofs.Checks.{lent-asked}
+use Rattle.look.specs.Look.{nextLeaves}
 use Rattle.look.proofs.Looks.{look-small}
-use Rattle.limpet.specs.Calls.{nextLeaves}
-use Rattle.limpet.proofs.Answers.{refused-leaves, done-leaves}
-use borrow.Author.Needs.{needs}
+use Rattle.limpet.proofs.Answers.{does-leaves, number-fits}
 use Rattle.limpet.proofs.of_looks.limpet_next.Statement.{statement}
 use Rattle.limpet.proofs.of_looks.limpet_next.Tie as tie
 
-judge-requires : tie.Need-judge-requires
-judge-requires c κs = search needs
+next-lent-requires : tie.Need-next-lent-requires
+next-lent-requires c κs = search needs
 
-refuses-requires : tie.Need-refuses-requires
-refuses-requires c κs = search needs
-
-pack-requires : tie.Need-pack-requires
-pack-requires c κs = search needs
+pack-told-requires : tie.Need-pack-told-requires
+unfolding nextLeaves outcome
+pack-told-requires c κs =
+    number-fits mostSlots (c .before .before .before .before .next-lent .ensures .number-is) (λ fine. look-small (lent-asked _ _ _ _ fine) refl) (omega arith)
 
 same-length : tie.Need-same-length
-same-length c = search needs
+unfolding nextLeaves outcome
+same-length c = ap length (c .before .before .before .before .before .next-lent .ensures .one-is) ∙ left-long _ _ _ (λ fine. length-row _ _ ∙ sym (lent-asked _ _ _ _ fine .modules))
 
 same-length-2 : tie.Need-same-length-2
-same-length-2 c = search needs
+unfolding nextLeaves outcome
+same-length-2 c = ap length (c .before .before .before .before .before .next-lent .ensures .two-is) ∙ left-long _ _ _ (λ fine. length-row _ _ ∙ sym (lent-asked _ _ _ _ fine .settings))
 
 returns : tie.Need-returns
-unfolding nextLeaves
-returns c =
-    let judged = c .before .before in
-    refused-leaves _ 0 _ _ _ _ (judged .before .judge .ensures) (judged .refuses .ensures) (c .before .if1 .taken) (c .pack .ensures) refl refl
-
--- what was asked of the floor below
-asked : (c : tie.Else1) →
-    let a = c .before .before .before .before .before .before .before .args in LentAsked (a .n) (a .k) (a .modules .now) (a .settings .now)
-asked c = lent-asked _ _ _ _ (was-fine (c .before .before .judge .ensures) (c .before .refuses .ensures) (c .if1 .left))
-
-next-requires : tie.Need-next-requires
-next-requires c κs = asked (c .before .before)
-
-pack-requires-2 : tie.Need-pack-requires-2
-pack-requires-2 c κs =
-    let made = c .before .before .before .before in omega (arith, look-small (asked (made .before .before .before)) (made .next .ensures .0))
-
-same-length-3 : tie.Need-same-length-3
-same-length-3 c =
-    let made = c .before .before .before .before .before in
-    ap length (made .next .ensures .1 .0) ∙ length-row _ _ ∙ sym (asked (made .before .before .before) .modules)
-
-same-length-4 : tie.Need-same-length-4
-same-length-4 c =
-    let made = c .before .before .before .before .before in
-    ap length (made .next .ensures .1 .1) ∙ length-row _ _ ∙ sym (asked (made .before .before .before) .settings)
-
-returns-2 : tie.Need-returns-2
-unfolding nextLeaves
-returns-2 c =
-    let made = c .before .before .before .before .before in
-    let passed = made .before .before .before in
-    rw (← made .next .ensures .0)
-    (done-leaves _ _ _ _ _ (passed .before .before .judge .ensures) (passed .before .refuses .ensures) (passed .if1 .left) (c .pack2 .ensures) (made .next .ensures .1 .0) (made .next .ensures .1 .1))
+returns c = does-leaves (c .before .before .before .before .before .next-lent .ensures) (c .pack-told .ensures)
 
 pub limpet-next-spec : {M : Type 1} → statement M
 limpet-next-spec =
-    tie.close
-    (tie.spec
-    judge-requires
-    refuses-requires
-    pack-requires
-    same-length
-    same-length-2
-    returns
-    next-requires
-    pack-requires-2
-    same-length-3
-    same-length-4
-    returns-2)
+    tie.close (tie.spec next-lent-requires pack-told-requires same-length same-length-2 returns)

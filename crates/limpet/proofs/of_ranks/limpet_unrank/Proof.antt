@@ -1,80 +1,37 @@
--- `limpet_unrank` keeps its promise: where the verdict refuses nothing is written, and else the arrangement of the rank is.
--- Assumes nothing.
-use mathlib.Core.Path.{refl, sym, _∙_, ap}
+-- `limpet_unrank` keeps its promise: it packs what the floor below answers, and no number comes with an arrangement. Assumes nothing.
+use mathlib.Core.Path.{_∙_, ap, sym}
+use native.Mathlib.Omega.{arith}
 use borrow.Author.Needs.{needs}
 use lib.ListN.{length}
+use native.Mathlib.Nat.{le-refl}
 use Rattle.rows.proofs.Rows.{length-row}
-use Rattle.sizes.proofs.Refusals.{was-fine}
-use Rattle.order.specs.Asked.{WriteAsked}
+use Rattle.sizes.specs.Outcome.{outcome}
+use Rattle.sizes.proofs.Outcomes.{left-long}
+use Rattle.unrank.specs.Unrank.{unrankLeaves}
 use Rattle.order.proofs.Checks.{write-asked}
-use Rattle.limpet.specs.Calls.{unrankLeaves}
-use Rattle.limpet.proofs.Answers.{refused-leaves, done-leaves}
+use Rattle.limpet.proofs.Answers.{does-leaves, number-fits}
 use Rattle.limpet.proofs.of_ranks.limpet_unrank.Statement.{statement}
 use Rattle.limpet.proofs.of_ranks.limpet_unrank.Tie as tie
 
-judge-requires : tie.Need-judge-requires
-judge-requires c κs = search needs
+write-lent-requires : tie.Need-write-lent-requires
+write-lent-requires c κs = search needs
 
-refuses-requires : tie.Need-refuses-requires
-refuses-requires c κs = search needs
-
-pack-requires : tie.Need-pack-requires
-pack-requires c κs = search needs
+pack-told-requires : tie.Need-pack-told-requires
+unfolding unrankLeaves outcome
+pack-told-requires c κs =
+    number-fits 0 (c .before .before .before .before .write-lent .ensures .number-is) (λ fine. le-refl 0) (omega arith)
 
 same-length : tie.Need-same-length
-same-length c = search needs
+unfolding unrankLeaves outcome
+same-length c = ap length (c .before .before .before .before .before .write-lent .ensures .one-is) ∙ left-long _ _ _ (λ fine. length-row _ _ ∙ sym (write-asked _ _ _ _ _ fine .modules))
 
 same-length-2 : tie.Need-same-length-2
-same-length-2 c = search needs
+unfolding unrankLeaves outcome
+same-length-2 c = ap length (c .before .before .before .before .before .write-lent .ensures .two-is) ∙ left-long _ _ _ (λ fine. length-row _ _ ∙ sym (write-asked _ _ _ _ _ fine .settings))
 
 returns : tie.Need-returns
-unfolding unrankLeaves
-returns c =
-    let judged = c .before .before in
-    refused-leaves 0 0 _ _ _ _ (judged .before .judge .ensures) (judged .refuses .ensures) (c .before .if1 .taken) (c .pack .ensures) refl refl
-
-write-requires : tie.Need-write-requires
-write-requires c κs =
-    let passed = c .before .before in
-    write-asked _ _ _ _ _ (was-fine (passed .before .before .judge .ensures) (passed .before .refuses .ensures) (passed .if1 .left))
-
-pack-requires-2 : tie.Need-pack-requires-2
-pack-requires-2 c κs = search needs
-
--- what was asked of the writing
-asked : (c : tie.Else1) →
-    let a = c .before .before .before .before .before .before .before .args in WriteAsked (a .n) (a .k) (a .rank) (a .modules .now) (a .settings .now)
-asked c = write-asked _ _ _ _ _ (was-fine (c .before .before .judge .ensures) (c .before .refuses .ensures) (c .if1 .left))
-
-same-length-3 : tie.Need-same-length-3
-same-length-3 c =
-    let written = c .before .before .before .before .before in
-    ap length (written .write .ensures .0) ∙ length-row _ _ ∙ sym (asked (written .before .before .before) .modules)
-
-same-length-4 : tie.Need-same-length-4
-same-length-4 c =
-    let written = c .before .before .before .before .before in
-    ap length (written .write .ensures .1) ∙ length-row _ _ ∙ sym (asked (written .before .before .before) .settings)
-
-returns-2 : tie.Need-returns-2
-unfolding unrankLeaves
-returns-2 c =
-    let written = c .before .before .before .before .before in
-    let passed = written .before .before .before in
-    done-leaves 0 _ _ _ _ (passed .before .before .judge .ensures) (passed .before .refuses .ensures) (passed .if1 .left) (c .pack2 .ensures) (written .write .ensures .0) (written .write .ensures .1)
+returns c = does-leaves (c .before .before .before .before .before .write-lent .ensures) (c .pack-told .ensures)
 
 pub limpet-unrank-spec : {M : Type 1} → statement M
 limpet-unrank-spec =
-    tie.close
-    (tie.spec
-    judge-requires
-    refuses-requires
-    pack-requires
-    same-length
-    same-length-2
-    returns
-    write-requires
-    pack-requires-2
-    same-length-3
-    same-length-4
-    returns-2)
+    tie.close (tie.spec write-lent-requires pack-told-requires same-length same-length-2 returns)
