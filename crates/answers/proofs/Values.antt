@@ -18,7 +18,7 @@ use Rattle.board.specs.Board.{boardLeaves}
 use Rattle.board.specs.Read.{Reads as ReadsBoard}
 use Rattle.board.specs.declared.read.Reading.{Reading}
 use Rattle.board.proofs.Readings.{one-reading}
-use Rattle.step.specs.Step.{lentStepVerdict, stepLeaves}
+use Rattle.step.specs.Step.{lentStepVerdict}
 use Rattle.stretch.specs.Stretch.{stretchVerdict}
 use Rattle.stretch.specs.Pair.{pairVerdict}
 use Rattle.walk.specs.declared.hand.Walk.{Walk}
@@ -93,9 +93,6 @@ module _ {r s : Told} {a b c d : List ℕ} where
 
   pub one-lent-board : (n k rank : ℕ) (cs fs : List ℕ) → Does (boardLeaves n k rank cs fs) r a b → Does (boardLeaves n k rank cs fs) s c d → (r ≡ s) × (a ≡ c) × (b ≡ d)
   one-lent-board n k rank cs fs p q = one-done p q
-
-  pub one-lent-step : (n k : ℕ) (cs fs : List ℕ) → Does (stepLeaves n k cs fs) r a b → Does (stepLeaves n k cs fs) s c d → (r ≡ s) × (a ≡ c) × (b ≡ d)
-  one-lent-step n k cs fs p q = one-done p q
 
   pub one-lent-reading : (book : List ℕ) (entry : ℕ) (ms ss : List ℕ) → Does (entryLeaves book entry ms ss) r a b → Does (entryLeaves book entry ms ss) s c d → (r ≡ s) × (a ≡ c) × (b ≡ d)
   one-lent-reading book entry ms ss p q = one-done p q

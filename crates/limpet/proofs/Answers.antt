@@ -11,9 +11,9 @@ use Rattle.sizes.specs.declared.Verdict.{Verdict}
 use Rattle.sizes.specs.declared.Verdict.the-variants.{Fine, Refused}
 use Rattle.sizes.specs.declared.Told.{Told}
 use Rattle.sizes.specs.Refusal.{refuses, numberOf, placeOf, unlessRefused}
-use Rattle.sizes.specs.Outcome.{Outcome, Does}
+use Rattle.sizes.specs.Outcome.{Outcome, outcome, Does}
 use Rattle.sizes.proofs.Refusals.{Small}
-use Rattle.sizes.proofs.Outcomes.{told-high}
+use Rattle.sizes.proofs.Outcomes.{refused-does, done-does, told-high}
 use Rattle.board.specs.declared.read.Reading.{Reading}
 use Rattle.board.proofs.Readings.{one-reading}
 use Rattle.limpet.specs.Calls.{ReadReturns}
@@ -93,3 +93,16 @@ does-leaves does r-is = record {
 -- its number fits the bits above the place, where it is at most so much in a call that was done
 pub number-fits : {v : Verdict} {x number : ℕ} (most : ℕ) → number ≡ unlessRefused v x → (v ≡ Fine → x ≤ most) → most < 2 ^ 48 → number < 2 ^ 48
 number-fits {v} {x} most is high fits = omega (arith, is, told-high v x most high)
+
+-- the same of a call that judges by itself: where it was refused, as t told, whatever value was packed with the verdict v
+pub refused-leaves : {v check : Verdict} {t : Bool} {r : ℕ} {a b : List ℕ} (number x : ℕ) (one two one-written two-written : List ℕ) →
+    v ≡ check → t ≡ refuses v → t ≡ true → r ≡ packed (answerOf v x) → a ≡ one → b ≡ two → Leaves (outcome check number one two one-written two-written) r a b
+refused-leaves number x one two one-written two-written v-is t-is t-true r-is a-is b-is =
+    does-leaves (refused-does number one two one-written two-written v-is t-is t-true a-is b-is) (refused-returns 0 x refl t-is t-true r-is .returned-is)
+
+-- and where it was done
+pub done-leaves : {v check : Verdict} {t : Bool} {r : ℕ} {a b : List ℕ} (number : ℕ) (one two one-written two-written : List ℕ) →
+    v ≡ check → t ≡ refuses v → t ≡ false → r ≡ packed (answerOf v number) → a ≡ one-written → b ≡ two-written →
+    Leaves (outcome check number one two one-written two-written) r a b
+done-leaves number one two one-written two-written v-is t-is t-false r-is a-is b-is =
+    does-leaves (done-does number one two one-written two-written v-is t-is t-false refl a-is b-is) r-is

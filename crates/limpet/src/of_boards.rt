@@ -29,7 +29,12 @@ pub extern "C" fn limpet_board_step(
 ) -> u64
     ensures { λ r. ⌜ Leaves (stepLeaves n k (now (counters .entry)) (now (pointers .entry))) r (now (counters .exit)) (now (pointers .exit)) ⌝ }
 {
-    pack_told(step::step_lent(n, k, counters, pointers))
+    let verdict = step::judge(n, k, counters, pointers);
+    if verdict.refuses() {
+        return pack(verdict, 0);
+    }
+    let stepped = step::step(n, k, counters, pointers);
+    pack(verdict, step::number_of(stepped))
 }
 
 #[no_mangle]

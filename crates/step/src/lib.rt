@@ -1,16 +1,14 @@
 // One step of a board, and its check. It reads the pointer at s and what it points to, and looks no
 // further, so that it costs the same whatever n is.
 use board::digits::lowest_digit;
-use sizes::Told;
 use sizes::Verdict;
 ghost use mathlib.Core.Path.{_≡_};
 ghost use mathlib.Core.Bool.{cond};
 ghost use Prim.Native.Nat.{suc, _+_, _≤_, _<_};
 ghost use lib.ListN.{length};
-ghost use Rattle.sizes.specs.Outcome.{Does};
 ghost use Rattle.sizes.specs.Sizes.{mostSlots};
 ghost use Rattle.board.specs.Board.{place as placeOf};
-ghost use Rattle.step.specs.Step.{put as putIn, closes, stepFlip, counterVerdict, stepVerdict, lentStepVerdict, steppedCounters, steppedPointers, stepLeaves};
+ghost use Rattle.step.specs.Step.{put as putIn, closes, stepFlip, counterVerdict, stepVerdict, lentStepVerdict, steppedCounters, steppedPointers};
 ghost use Rattle.board.specs.Asked.{LentBoard};
 ghost use Rattle.step.specs.Asked.{DigitAsked, FillAsked, StepAsked};
 
@@ -136,25 +134,10 @@ pub fn step(n: usize, k: usize, counters: &mut [u8], pointers: &mut [u8]) -> Ste
 }
 
 // What a step answers, as one number: the flip, and 256 where the round closed.
-fn number_of(stepped: Stepped) -> u64
+pub fn number_of(stepped: Stepped) -> u64
     requires { ⌜ stepped .flip ≤ mostSlots ⌝ }
     ensures { λ r. ⌜ r ≡ stepped .flip + cond (stepped .closed) 256 0 ⌝ }
 {
     let flip = stepped.flip as u64;
     if stepped.closed { flip + 256 } else { flip }
-}
-
-// One step of any board in any two lent buffers.
-pub fn step_lent(n: usize, k: usize, counters: &mut [u8], pointers: &mut [u8]) -> Told
-    ensures { λ r. ⌜ Does (stepLeaves n k (now (counters .entry)) (now (pointers .entry))) r (now (counters .exit)) (now (pointers .exit)) ⌝ }
-{
-    let verdict = judge(n, k, counters, pointers);
-    if verdict.refuses() {
-        return Told { verdict, number: 0 };
-    }
-    let stepped = step(n, k, counters, pointers);
-    Told {
-        verdict,
-        number: number_of(stepped),
-    }
 }
