@@ -1,7 +1,7 @@
 -- `entry::read_lent` meets its contract: where the verdict refuses nothing is written, and else the arrangement of the entry is, with
 -- its n and k for number. Assumes nothing.
 use Prim.Native.Nat.{_+_, _-_, _*_}
-use mathlib.Core.Path.{_≡_, refl, _∙_, ap, ap₂}
+use mathlib.Core.Path.{_≡_, refl, ap₂}
 use borrow.Author.Needs.{needs}
 use lib.ListN.{length}
 use Rattle.sizes.specs.declared.Verdict.the-variants.{Fine}
