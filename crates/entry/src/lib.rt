@@ -1,5 +1,5 @@
-// What an entry of a book says, 01's entry 1 to E: the check of what is lent (`judge`), and the entry of a
-// book that has been checked.
+// What an entry of a book says, 01's entry 1 to E: the reading of any bytes (`read_lent`), the check that
+// it begins with (`judge`), and what each reads of a book that has been checked.
 use book::format;
 use sizes::MOST_SLOTS;
 use sizes::Told;

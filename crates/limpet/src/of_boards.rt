@@ -20,6 +20,7 @@ pub extern "C" fn limpet_board_write(
     pack_told(board::write::write_lent(n, k, rank, counters, pointers))
 }
 
+// A step is a few comparisons long, and is the faster for packing its answer on each branch.
 #[no_mangle]
 pub extern "C" fn limpet_board_step(
     n: usize,
