@@ -8,6 +8,27 @@
 enum { HEAD = 2, OFFSET_AT = 2, OFFSET_LENGTH = 4, COUNT_AT = 6, COUNT_LENGTH = 8, SETTING_WEIGHT = 32 };
 enum { FEW_ENTRIES = 4 };
 
+const struct book worked_book = {
+    .entries = 3,
+    .stretches = {{2, 2, 6, 3}, {2, 3, 17, 18}, {1, 1, 0, 1}},
+    .length = 49,
+    .bytes = {1,  3,                                        /* the format and E */
+              2,  2,  44, 0, 0, 0, 3,  0, 0, 0, 0, 0, 0, 0, /* n, k, the offset and the count */
+              2,  3,  46, 0, 0, 0, 18, 0, 0, 0, 0, 0, 0, 0,
+              1,  1,  48, 0, 0, 0, 1,  0, 0, 0, 0, 0, 0, 0,
+              2,  33,                                       /* the bodies */
+              66, 65,
+              1},
+};
+
+const struct book worked_count = {
+    .entries = 1,
+    .stretches = {{20, 1, 0, 0x2122334455667788}},
+    .length = 36,
+    .bytes = {1, 1, 20, 1, 16, 0, 0, 0, 0x88, 0x77, 0x66, 0x55, 0x44, 0x33, 0x22, 0x21,
+              1, 2, 3, 4, 5, 6, 7, 8, 9, 10, 11, 12, 13, 14, 15, 16, 17, 18, 19, 20},
+};
+
 size_t entry_at(size_t entry)
 {
     return HEAD + LIMPET_ENTRY_LENGTH * (entry - 1);
@@ -25,6 +46,14 @@ void put_number(uint8_t *bytes, size_t length, uint64_t number)
 {
     for (size_t i = 0; i < length; i++, number >>= 8)
         bytes[i] = (uint8_t)number;
+}
+
+uint64_t get_number(const uint8_t *bytes, size_t length)
+{
+    uint64_t number = 0;
+    while (length-- > 0)
+        number = number << 8 | bytes[length];
+    return number;
 }
 
 static void put_offset(struct book *book, size_t entry, uint64_t offset)
@@ -172,13 +201,12 @@ bool is_of_body(enum fault fault)
     return fault >= BAD_MODULE && fault <= BAD_SETTING;
 }
 
-/* A byte that is 0 or above `most`, up to `end`. */
-static uint8_t byte_beyond(size_t most, size_t end)
+uint8_t byte_beyond(size_t most, size_t end)
 {
     return (uint8_t)(draw(4) == 0 ? 0 : end - draw(end - most));
 }
 
-static void enlarge(uint8_t *sizes)
+void enlarge(uint8_t sizes[2])
 {
     do {
         sizes[0] = (uint8_t)(1 + draw(LIMPET_MOST_SLOTS));

@@ -24,8 +24,15 @@ struct book {
 size_t entry_at(size_t entry);
 size_t body_at(const struct book *book, size_t entry);
 
-/* Puts a number into as many bytes, the least first. */
+/* Puts a number into as many bytes, the least first; and the number that stands there. */
 void put_number(uint8_t *bytes, size_t length, uint64_t number);
+uint64_t get_number(const uint8_t *bytes, size_t length);
+
+/*
+ * Written by hand: from 2:0 1:1 three of n = 2, k = 2, from 2:2 1:2 all of n = 2, k = 3, and 1:0; and a count
+ * above 2^32 with every byte different, n = 20, k = 1, from home.
+ */
+extern const struct book worked_book, worked_count;
 
 /* Writes the bytes of the book of its stretches. Random bytes stand behind its end. */
 void write_book(struct book *book);
@@ -51,6 +58,10 @@ struct asked book_of_most(size_t n, size_t k);
 enum { BAD_OFFSETS = 10, BAD_COUNTS = 8 };
 uint64_t bad_offset(size_t which, uint64_t good);
 uint64_t bad_count(size_t which, uint64_t good, uint64_t total);
+
+/* A byte that is 0 or above `most`, up to `end`; and an n and a k, both permitted, whose T is too large. */
+uint8_t byte_beyond(size_t most, size_t end);
+void enlarge(uint8_t sizes[2]);
 
 /* What can be wrong with a reading, in the order of 01: the places of a call's `refusals`. */
 enum fault {

@@ -6,6 +6,7 @@
 #include "books.h"
 #include "faults.h"
 #include "limpet.h"
+#include "plans.h"
 #include "reference.h"
 #include "reference_board.h"
 #include "reference_book.h"
@@ -67,6 +68,16 @@ static bool is_count_of_entry(const struct asked *asked, uint64_t count)
 static bool is_rank_of_entry(const struct asked *asked, uint64_t rank)
 {
     return rank < total_of_entry(asked);
+}
+
+/* Of a book of the stretches listed, for which there is room. */
+static bool is_length_of_book(const struct asked *asked, uint64_t length)
+{
+    const struct bytes ns = asked->lists[NS];
+    size_t expected = entry_at(ns.length + 1);
+    for (size_t i = 0; i < ns.length; i++)
+        expected += ns.at[i];
+    return length == expected && length <= asked->book.length;
 }
 
 const struct call round_call = {.name = "round",
@@ -214,9 +225,17 @@ const struct call book_rank_call = {.name = "book rank",
                                     .spoil = spoil_random_book,
                                     .is_value = is_rank_of_entry};
 
+const struct call book_write_call = {.name = "book write",
+                                     .refusals = {4, 14, 1, 2, 3, 8, 15, 4},
+                                     .library.to_book = limpet_book_write,
+                                     .reference.to_book = reference_book_write,
+                                     .fair = random_plan,
+                                     .spoil = spoil_random_plan,
+                                     .is_value = is_length_of_book};
+
 const struct call *const all_calls[CALLS] = {
     &round_call,      &total_call,      &check_call,           &flip_call,      &rank_call,
     &value_call,      &unrank_call,     &look_call,            &next_call,      &board_write_call,
     &board_step_call, &board_read_call, &board_read_rank_call, &pair_call,      &book_read_call,
-    &book_count_call, &book_rank_call,
+    &book_count_call, &book_rank_call,  &book_write_call,
 };

@@ -40,7 +40,8 @@
  *    1  n is 0 or above 20
  *    2  k is 0 or above 8
  *    3  T is above 2^64 - 1
- *    4  a lent buffer hasn't its exact length
+ *    4  a lent buffer hasn't its exact length; or, as said with limpet_book_write, lists of stretches differ in
+ *       length, or a buffer is shorter than the book to be written into it
  *    5  a module is outside 1..n
  *    6  a module stands twice
  *    7  a setting is k or more
@@ -57,7 +58,8 @@
  *
  * The place of 5, 6 and 7 is the lowest bad slot, counted from 1; for 6 the lowest slot whose module
  * already stands in a lower slot. Each is tried over all slots before the next. In a book the place of 1, 2,
- * 3, 15, 5, 6 and 7 is the number of the entry. The place of every other refusal is 0.
+ * 3, 15, 5, 6 and 7 is the number of the entry, and in one to be written that of 1, 2, 3, 8 and 15. The place
+ * of every other refusal is 0.
  */
 #ifndef LIMPET_H
 #define LIMPET_H
@@ -194,6 +196,22 @@ uint64_t limpet_book_count(const uint8_t *book, size_t book_length, size_t entry
  * another number than 4. Rank 0 is also that of home; a count is never 0, and so tells a refusal.
  */
 uint64_t limpet_book_rank(const uint8_t *book, size_t book_length, size_t entry);
+
+/*
+ * Writes the book of E stretches, in their order, at the start of the buffer, whatever that holds; the bytes
+ * behind the book stay. The stretches are lent as four lists: each n and each k in one byte, each rank and each
+ * count in eight, the least first. So the lists have E, E, 8 * E and 8 * E bytes, E being the length of the
+ * first. Value: the length of the book, at most LIMPET_MOST_BOOK. The refusals, in this order:
+ *    4, where a list hasn't that length
+ *    14, where E is 0 or above 64
+ *    1, 2, 3, 8, then 15 for the count, stretch by stretch, with the stretch, counted from 1, as place
+ *    4, for a buffer that is shorter than the book
+ * A reading of what is written gives each stretch as it was given; and a book that was read, written again from
+ * what was read of it, has the same bytes.
+ */
+uint64_t limpet_book_write(const uint8_t *ns, size_t ns_length, const uint8_t *ks, size_t ks_length,
+                           const uint8_t *ranks, size_t ranks_length, const uint8_t *counts,
+                           size_t counts_length, uint8_t *book, size_t book_length);
 
 #ifdef __cplusplus
 }

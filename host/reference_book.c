@@ -149,3 +149,96 @@ uint64_t reference_book_rank(const uint8_t *book, size_t book_length, size_t ent
     const struct arrangement at = body_of(book, &found);
     return reference_rank_value(found.n, found.k, at.modules, found.n, at.settings, found.n);
 }
+
+/* The lists of a book's stretches; the first has index 0. */
+struct lists {
+    size_t number;
+    const uint8_t *ns, *ks, *ranks, *counts;
+};
+
+static uint64_t number_in(const uint8_t *list, size_t index)
+{
+    return least_first(list + 8 * index, 8);
+}
+
+/* 1, 2, 3, 8 and 15 of one stretch, without its place. */
+static uint64_t check_stretch(const struct lists *lists, size_t index)
+{
+    const size_t n = lists->ns[index], k = lists->ks[index];
+    const uint64_t answer = reference_round(n, k), total = reference_round_total(n, k);
+    const uint64_t count = number_in(lists->counts, index);
+    if (answer != DONE)
+        return answer;
+    if (number_in(lists->ranks, index) >= total)
+        return refused(8, 0);
+    return count == 0 || count > total ? refused(15, 0) : DONE;
+}
+
+/* 14, and what is wrong with a stretch. */
+static uint64_t check_stretches(const struct lists *lists)
+{
+    if (lists->number == 0 || lists->number > MOST_ENTRIES)
+        return refused(14, 0);
+    for (size_t i = 0; i < lists->number; i++) {
+        const uint64_t answer = check_stretch(lists, i);
+        if (answer != DONE)
+            return with_place(answer, i + 1);
+    }
+    return DONE;
+}
+
+static size_t length_of(const struct lists *lists)
+{
+    size_t length = HEAD + lists->number * ENTRY;
+    for (size_t i = 0; i < lists->number; i++)
+        length += lists->ns[i];
+    return length;
+}
+
+static void put_least_first(uint8_t *bytes, size_t length, uint64_t number)
+{
+    for (size_t i = 0; i < length; i++)
+        bytes[i] = (uint8_t)(number >> 8 * i);
+}
+
+/* An entry, and the body at its offset. */
+static void put_stretch(uint8_t *book, const struct lists *lists, size_t index, size_t offset)
+{
+    const size_t n = lists->ns[index], k = lists->ks[index];
+    uint8_t *const entry = book + HEAD + index * ENTRY;
+    struct arrangement at;
+    reference_unrank(n, k, number_in(lists->ranks, index), at.modules, n, at.settings, n);
+    entry[0] = (uint8_t)n;
+    entry[1] = (uint8_t)k;
+    put_least_first(entry + OFFSET_AT, 4, offset);
+    put_least_first(entry + COUNT_AT, 8, number_in(lists->counts, index));
+    for (size_t i = 0; i < n; i++)
+        book[offset + i] = (uint8_t)(at.settings[i] * 32 + at.modules[i]);
+}
+
+static void put_book(uint8_t *book, const struct lists *lists)
+{
+    size_t offset = HEAD + lists->number * ENTRY;
+    book[0] = 1;
+    book[1] = (uint8_t)lists->number;
+    for (size_t i = 0; i < lists->number; i++) {
+        put_stretch(book, lists, i, offset);
+        offset += lists->ns[i];
+    }
+}
+
+uint64_t reference_book_write(const uint8_t *ns, size_t ns_length, const uint8_t *ks, size_t ks_length,
+                              const uint8_t *ranks, size_t ranks_length, const uint8_t *counts,
+                              size_t counts_length, uint8_t *book, size_t book_length)
+{
+    const struct lists lists = {ns_length, ns, ks, ranks, counts};
+    if (ks_length != ns_length || ranks_length != 8 * ns_length || counts_length != 8 * ns_length)
+        return refused(4, 0);
+    const uint64_t answer = check_stretches(&lists);
+    if (answer != DONE)
+        return answer;
+    if (book_length < length_of(&lists))
+        return refused(4, 0);
+    put_book(book, &lists);
+    return answered(length_of(&lists));
+}

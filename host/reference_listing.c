@@ -23,13 +23,12 @@ static bool take_number(const char **at, const char *end, uint64_t *number)
     return *at > first && (*first != '0' || *at == first + 1);
 }
 
-/* Whether the bytes are one line as 01 has it. */
-static bool take_line(const char *at, const char *end, uint64_t numbers[NUMBERS])
+bool reference_line(const char **at, const char *end, uint64_t numbers[NUMBERS])
 {
     for (int i = 0; i < NUMBERS; i++)
-        if (!take_number(&at, end, &numbers[i]) || at == end || *at++ != (i == COUNT ? '\n' : ' '))
+        if (!take_number(at, end, &numbers[i]) || *at == end || *(*at)++ != (i == COUNT ? '\n' : ' '))
             return false;
-    return at == end;
+    return true;
 }
 
 static char *put_arrangement(char *at, size_t n, size_t k, uint64_t rank)
@@ -57,7 +56,8 @@ size_t reference_listing(const char *input, size_t length, char out[LISTING_MOST
 {
     uint64_t numbers[NUMBERS];
     uint64_t answer = refused(17, 0);
-    if (take_line(input, input + length, numbers))
+    const char *at = input;
+    if (reference_line(&at, input + length, numbers) && at == input + length)
         answer = reference_stretch(numbers[N], numbers[K], numbers[RANK], numbers[COUNT]);
     if (answer != 0)
         return (size_t)sprintf(out, "refused %" PRIu64 "\n", answer & 0xff);

@@ -5,7 +5,12 @@
 #ifndef REFERENCE_LISTING_H
 #define REFERENCE_LISTING_H
 
+#include <stdbool.h>
 #include <stddef.h>
+#include <stdint.h>
+
+/* Whether the bytes from `at` on begin with a line as 01 has it; `at` is then left behind it. */
+bool reference_line(const char **at, const char *end, uint64_t numbers[4]);
 
 /* Writes what the program prints for an input, any bytes, and answers its length. */
 enum { LISTING_MOST = 1 << 24 };

@@ -73,14 +73,15 @@ uint8_t *lend(size_t room, const uint8_t *bytes, size_t length)
     return memcpy(lent, bytes, length);
 }
 
-uint8_t *lend_far(size_t room, const uint8_t *bytes, size_t length)
+uint8_t *lend_far(size_t room, const uint8_t *bytes, size_t length, bool is_written)
 {
     static uint8_t *far[ROOMS];
     if (far[room] == NULL)
         far[room] = mapped(ROOM + FAR_MORE, PROT_READ);
     end_unless(mprotect(far[room], ROOM, PROT_READ | PROT_WRITE) == 0);
-    memcpy(far[room], bytes, length);
-    end_unless(mprotect(far[room], ROOM, PROT_READ) == 0);
+    if (length > 0)
+        memcpy(far[room], bytes, length);
+    end_unless(is_written || mprotect(far[room], ROOM, PROT_READ) == 0);
     return far[room];
 }
 

@@ -11,7 +11,7 @@
 #include <stdint.h>
 
 /* As many rooms as a call is lent buffers, and the most bytes that are lent from one. */
-enum { ROOMS = 3, LENT_MOST = 1 << 17 };
+enum { ROOMS = 7, LENT_MOST = 1 << 20 };
 
 /* Where in its room each buffer is lent from now on. */
 enum placement { BEFORE_PAGE, BEHIND_PAGE };
@@ -20,9 +20,12 @@ void lend_at(enum placement placement);
 /* Puts bytes into a room and answers where they are. No bytes are NULL before a page, and not behind one. */
 uint8_t *lend(size_t room, const uint8_t *bytes, size_t length);
 
-/* The same where FAR_MORE bytes more are lent behind these; none of all that can be written. */
+/*
+ * The same where FAR_MORE bytes more are lent behind these. None of all that can be written, or, where that is
+ * said, only these bytes and some behind them.
+ */
 #define FAR_MORE ((size_t)1 << 32)
-uint8_t *lend_far(size_t room, const uint8_t *bytes, size_t length);
+uint8_t *lend_far(size_t room, const uint8_t *bytes, size_t length, bool is_written);
 
 /* Whether the guard bytes beside what was lent are as they were made. */
 bool are_guards_whole(size_t room, size_t length);

@@ -79,48 +79,102 @@ uint64_t rank_beyond(size_t which, uint64_t good, uint64_t total)
     return all[which];
 }
 
-/* Reads a lent buffer back into its row; false where a byte beside it was written. */
-static bool take_back(size_t room, const uint8_t *lent, struct row *row)
+static size_t lists_of(const struct call *call)
 {
-    if (row->length > 0)
-        memcpy(row->bytes, lent, row->length);
-    return are_guards_whole(room, row->length);
+    return call->library.to_book != NULL ? LISTS : 0;
 }
 
-/* False where the lent book was written, or a byte beside it. */
-static bool is_book_whole(const uint8_t *lent, struct bytes book)
+/* memcpy and memcmp, for bytes that may be none and then nowhere. */
+static void copy(uint8_t *to, const uint8_t *from, size_t length)
 {
-    return are_guards_whole(BOOK, book.length) &&
-           (book.length == 0 || memcmp(lent, book.at, book.length) == 0);
+    if (length > 0)
+        memcpy(to, from, length);
 }
 
-static uint64_t apply(const struct function *function, const struct asked *asked, const uint8_t *book,
-                      uint8_t *const lent[ROWS])
+static bool are_same(const uint8_t *a, const uint8_t *b, size_t length)
+{
+    return length == 0 || memcmp(a, b, length) == 0;
+}
+
+/* Where what is lent to a function stands. */
+struct lent {
+    uint8_t *rows[ROWS], *book;
+    const uint8_t *lists[LISTS];
+};
+
+static struct lent lend_all(const struct call *call, const struct asked *asked)
+{
+    struct lent lent = {.book = lend(BOOK, asked->book.at, asked->book.length)};
+    for (size_t i = 0; i < ROWS; i++)
+        lent.rows[i] = lend(i, asked->lent[i].bytes, asked->lent[i].length);
+    for (size_t i = 0; i < lists_of(call); i++)
+        lent.lists[i] = lend(FIRST_LIST + i, asked->lists[i].at, asked->lists[i].length);
+    return lent;
+}
+
+/* The rows of `known` itself, a copy of its book, which it then has, and the lists where they are. */
+static struct lent lend_to_reference(struct asked *known)
+{
+    static uint8_t book[LENT_MOST];
+    struct lent lent = {.book = book};
+    copy(book, known->book.at, known->book.length);
+    known->book.at = book;
+    for (size_t i = 0; i < ROWS; i++)
+        lent.rows[i] = known->lent[i].bytes;
+    for (size_t i = 0; i < LISTS; i++)
+        lent.lists[i] = known->lists[i].at;
+    return lent;
+}
+
+/* Reads back what was lent to the library; false where a byte beside it, or of a list, was written. */
+static bool take_back(const struct call *call, const struct lent *lent, struct asked *came)
+{
+    static uint8_t book[LENT_MOST];
+    bool is_whole = are_guards_whole(BOOK, came->book.length);
+    copy(book, lent->book, came->book.length);
+    came->book.at = book;
+    for (size_t i = 0; i < ROWS; i++) {
+        copy(came->lent[i].bytes, lent->rows[i], came->lent[i].length);
+        is_whole = are_guards_whole(i, came->lent[i].length) && is_whole;
+    }
+    for (size_t i = 0; i < lists_of(call); i++)
+        is_whole = are_guards_whole(FIRST_LIST + i, came->lists[i].length) &&
+                   are_same(lent->lists[i], came->lists[i].at, came->lists[i].length) && is_whole;
+    return is_whole;
+}
+
+static uint64_t apply(const struct function *function, const struct asked *asked, const struct lent *lent)
 {
     const size_t first = asked->lent[0].length, second = asked->lent[1].length;
+    uint8_t *const *const rows = lent->rows;
     const struct pair pair = asked->pair;
     if (function->of_sizes != NULL)
         return function->of_sizes(asked->n, asked->k);
     if (function->reading != NULL)
-        return function->reading(asked->n, asked->k, lent[0], first, lent[1], second);
+        return function->reading(asked->n, asked->k, rows[0], first, rows[1], second);
     if (function->changing != NULL)
-        return function->changing(asked->n, asked->k, lent[0], first, lent[1], second);
+        return function->changing(asked->n, asked->k, rows[0], first, rows[1], second);
     if (function->counting != NULL)
         return function->counting(asked->n, asked->k, asked->argument, asked->count, pair.v, pair.c, pair.w,
                                   pair.e);
     if (function->of_book != NULL)
-        return function->of_book(book, asked->book.length, asked->argument);
+        return function->of_book(lent->book, asked->book.length, asked->argument);
     if (function->from_book != NULL)
-        return function->from_book(book, asked->book.length, asked->argument, lent[0], first, lent[1],
+        return function->from_book(lent->book, asked->book.length, asked->argument, rows[0], first, rows[1],
                                    second);
-    return function->writing(asked->n, asked->k, asked->argument, lent[0], first, lent[1], second);
+    if (function->to_book != NULL)
+        return function->to_book(lent->lists[NS], asked->lists[NS].length, lent->lists[KS],
+                                 asked->lists[KS].length, lent->lists[RANKS], asked->lists[RANKS].length,
+                                 lent->lists[COUNTS], asked->lists[COUNTS].length, lent->book,
+                                 asked->book.length);
+    return function->writing(asked->n, asked->k, asked->argument, rows[0], first, rows[1], second);
 }
 
 /* What a call came to, or is known to come to. */
 struct outcome {
     uint64_t answer;
     bool guards_whole;
-    const struct row *left;
+    const struct asked *left;
 };
 
 static void print_bytes(const uint8_t *bytes, size_t length, size_t most)
@@ -130,9 +184,11 @@ static void print_bytes(const uint8_t *bytes, size_t length, size_t most)
         printf(" %u", bytes[i]);
 }
 
-static void print_rows(const struct row *rows)
+static void print_left(const struct asked *left)
 {
-    for (const struct row *row = rows; row < rows + ROWS; row++)
+    if (left->book.length > 0)
+        print_bytes(left->book.at, left->book.length, BOOK_PRINTED);
+    for (const struct row *row = left->lent; row < left->lent + ROWS; row++)
         print_bytes(row->bytes, row->length, BYTES_PRINTED);
     printf("\n");
 }
@@ -143,26 +199,32 @@ static void print_asked(const struct call *call, const struct asked *asked)
     if (call->library.counting != NULL)
         printf(" count=%" PRIu64 " pair=%zu:%zu,%zu:%zu", asked->count, asked->pair.v, asked->pair.c,
                asked->pair.w, asked->pair.e);
-    if (asked->book.length > 0)
-        print_bytes(asked->book.at, asked->book.length, BOOK_PRINTED);
-    print_rows(asked->lent);
+    for (size_t i = 0; i < lists_of(call); i++)
+        print_bytes(asked->lists[i].at, asked->lists[i].length, BYTES_PRINTED);
+    print_left(asked);
+}
+
+static bool is_left_same(const struct asked *a, const struct asked *b)
+{
+    bool same = are_same(a->book.at, b->book.at, a->book.length);
+    for (size_t i = 0; i < ROWS; i++)
+        same = same && are_same(a->lent[i].bytes, b->lent[i].bytes, a->lent[i].length);
+    return same;
 }
 
 /* Counts a failure where the two differ; the first few of a test are printed. */
 static void hold(const struct call *call, const struct asked *asked, struct outcome came,
                  struct outcome known)
 {
-    bool same = came.answer == known.answer && came.guards_whole;
-    for (size_t i = 0; i < ROWS; i++)
-        same = same && memcmp(came.left[i].bytes, known.left[i].bytes, asked->lent[i].length) == 0;
+    const bool same = came.answer == known.answer && came.guards_whole && is_left_same(came.left, known.left);
     if (same || ++failures > FAILURES_PRINTED)
         return;
     print_asked(call, asked);
     printf("  came      answer 0x%" PRIx64, came.answer);
-    print_rows(came.left);
+    print_left(came.left);
     printf("  expected  answer 0x%" PRIx64, known.answer);
-    print_rows(known.left);
-    printf("%s", came.guards_whole ? "" : "  a byte beside a lent buffer or of a book was written\n");
+    print_left(known.left);
+    printf("%s", came.guards_whole ? "" : "  a byte beside a lent buffer or of a list was written\n");
 }
 
 void expect_that(bool holds, const struct call *call, const struct asked *asked, const char *what)
@@ -176,26 +238,22 @@ void expect_that(bool holds, const struct call *call, const struct asked *asked,
 uint64_t ask(const struct call *call, struct asked *asked)
 {
     struct asked came = *asked, known = *asked;
-    uint8_t *for_library[ROWS], *for_reference[ROWS];
-    for (size_t i = 0; i < ROWS; i++) {
-        for_library[i] = lend(i, asked->lent[i].bytes, asked->lent[i].length);
-        for_reference[i] = known.lent[i].bytes;
-    }
-    const uint8_t *book = lend(BOOK, asked->book.at, asked->book.length);
-    const uint64_t answer = apply(&call->library, asked, book, for_library);
-    const uint64_t known_answer = apply(&call->reference, asked, asked->book.at, for_reference);
-    bool guards_whole = is_book_whole(book, asked->book);
-    for (size_t i = 0; i < ROWS; i++)
-        guards_whole = take_back(i, for_library[i], &came.lent[i]) && guards_whole;
-    hold(call, asked, (struct outcome){answer, guards_whole, came.lent},
-         (struct outcome){known_answer, true, known.lent});
+    const struct lent to_library = lend_all(call, asked), to_reference = lend_to_reference(&known);
+    const uint64_t answer = apply(&call->library, asked, &to_library);
+    const uint64_t known_answer = apply(&call->reference, asked, &to_reference);
+    const bool guards_whole = take_back(call, &to_library, &came);
+    hold(call, asked, (struct outcome){answer, guards_whole, &came},
+         (struct outcome){known_answer, true, &known});
+    if (call->library.to_book == NULL)
+        came.book = asked->book;
     *asked = came;
     return answer;
 }
 
-static uint8_t *lend_near_or_far(size_t room, const uint8_t *bytes, size_t *length, bool is_far)
+static uint8_t *lend_near_or_far(size_t room, const uint8_t *bytes, size_t *length, bool is_far,
+                                 bool is_written)
 {
-    uint8_t *const lent = (is_far ? lend_far : lend)(room, bytes, *length);
+    uint8_t *const lent = is_far ? lend_far(room, bytes, *length, is_written) : lend(room, bytes, *length);
     *length += is_far ? FAR_MORE : 0;
     return lent;
 }
@@ -203,20 +261,23 @@ static uint8_t *lend_near_or_far(size_t room, const uint8_t *bytes, size_t *leng
 uint64_t ask_far(const struct call *call, const struct asked *asked, const bool is_far[ROOMS])
 {
     struct asked far = *asked;
-    uint8_t *rows[ROWS];
+    struct lent lent = {.book = lend_near_or_far(BOOK, asked->book.at, &far.book.length, is_far[BOOK],
+                                                 call->library.to_book != NULL)};
     for (size_t i = 0; i < ROWS; i++)
-        rows[i] = lend_near_or_far(i, asked->lent[i].bytes, &far.lent[i].length, is_far[i]);
-    const uint8_t *book = lend_near_or_far(BOOK, asked->book.at, &far.book.length, is_far[BOOK]);
-    return apply(&call->library, &far, book, rows);
+        lent.rows[i] = lend_near_or_far(i, asked->lent[i].bytes, &far.lent[i].length, is_far[i], false);
+    for (size_t i = 0; i < lists_of(call); i++)
+        lent.lists[i] = lend_near_or_far(FIRST_LIST + i, asked->lists[i].at, &far.lists[i].length,
+                                         is_far[FIRST_LIST + i], false);
+    return apply(&call->library, &far, &lent);
 }
 
 void expect(const struct call *call, const struct asked *asked, uint64_t answer, const struct asked *left)
 {
     struct asked came = *asked;
     const unsigned long failures_before = failures;
-    const struct outcome outcome = {ask(call, &came), true, came.lent};
+    const struct outcome outcome = {ask(call, &came), true, &came};
     if (failures == failures_before)
-        hold(call, asked, outcome, (struct outcome){answer, true, left->lent});
+        hold(call, asked, outcome, (struct outcome){answer, true, left});
 }
 
 void expect_line(const char *came, const char *known)

@@ -14,8 +14,11 @@
 
 #define COUNT_OF(array) (sizeof(array) / sizeof((array)[0]))
 
-/* The rows that a call is lent, each from a room of its own, and the book from one. */
-enum { MODULES, SETTINGS, ROWS, COUNTERS = MODULES, POINTERS, BOOK = ROWS };
+/* The lists of stretches that a book is written from. */
+enum { NS, KS, RANKS, COUNTS, LISTS };
+
+/* The rows that a call is lent, each from a room of its own, and so the book and the lists. */
+enum { MODULES, SETTINGS, ROWS, COUNTERS = MODULES, POINTERS, BOOK = ROWS, FIRST_LIST };
 
 /* ROW_MOST has room for a length whose low byte alone is right. */
 enum { ROW_MOST = 300, REFUSALS_MOST = 14 };
@@ -25,7 +28,7 @@ struct row {
     uint8_t bytes[ROW_MOST];
 };
 
-/* Bytes that are lent to be read and never written: a book. */
+/* Bytes that are lent: a book, or a list of stretches. */
 struct bytes {
     size_t length;
     const uint8_t *at;
@@ -41,7 +44,8 @@ struct asked {
     size_t n, k, argument;
     uint64_t count; /* of a stretch, which begins at the rank that is the argument */
     struct pair pair;
-    struct bytes book; /* whose entry asked for is the argument */
+    struct bytes book; /* whose entry asked for is the argument, or to be written over */
+    struct bytes lists[LISTS];
     struct row lent[ROWS];
 };
 
@@ -55,6 +59,8 @@ struct function {
                          size_t e);
     uint64_t (*of_book)(const uint8_t *, size_t, size_t entry);
     uint64_t (*from_book)(const uint8_t *, size_t, size_t entry, uint8_t *, size_t, uint8_t *, size_t);
+    uint64_t (*to_book)(const uint8_t *ns, size_t, const uint8_t *ks, size_t, const uint8_t *ranks, size_t,
+                        const uint8_t *counts, size_t, uint8_t *, size_t);
 };
 
 /* A call under test, with its refusals in the order in which they are tried. */
@@ -104,10 +110,16 @@ size_t beyond(size_t which, size_t good, size_t most);
 enum { RANKS_BEYOND = 7 };
 uint64_t rank_beyond(size_t which, uint64_t good, uint64_t total);
 
-/* Makes the call and holds it to the reference. Leaves in `asked` what the call left in the buffers. */
+/*
+ * Makes the call and holds it to the reference. Leaves in `asked` what the call left in the buffers; the next
+ * call that writes a book writes over the one that this call left.
+ */
 uint64_t ask(const struct call *call, struct asked *asked);
 
-/* Makes a call that has to refuse: what is lent from these rooms has FAR_MORE bytes more than is asked. */
+/*
+ * Makes a call: what is lent from these rooms has FAR_MORE bytes more than is asked. It has to refuse, unless
+ * what is so long is a book that it writes.
+ */
 uint64_t ask_far(const struct call *call, const struct asked *asked, const bool is_far[ROOMS]);
 
 /* Asks, and holds answer and buffers also to those that the test itself knows. */
@@ -132,6 +144,8 @@ void look_tests(void);
 void board_tests(void);
 void pair_tests(void);
 void book_tests(void);
+void book_write_tests(void);
+void planner_tests(void);
 void handover_tests(void);
 void station_tests(void);
 void listing_tests(void);

@@ -1,34 +1,17 @@
-/* The tests of limpet_book_read, limpet_book_count and limpet_book_rank. */
+/*
+ * The tests of limpet_book_read, limpet_book_count and limpet_book_rank. Each good book that they meet is also
+ * written again by limpet_book_write: see readings.c.
+ */
 #include "books.h"
 #include "calls.h"
 #include "limpet.h"
+#include "readings.h"
 #include "reference.h"
 #include "refusals.h"
 
 #include <string.h>
 
 enum { AT_RANDOM = 20000, MOST_DAMAGE = 3, PLACES = 5, FAR = 1 << 16 };
-
-/* Asks any of the calls for an entry of a good book, knowing the stretch that it was made from. */
-static void expect_entry(const struct call *call, const struct book *book, size_t entry)
-{
-    const struct stretch *stretch = &book->stretches[entry - 1];
-    const size_t n = stretch->n, k = stretch->k;
-    const struct asked asked = asked_for(book, entry);
-    struct asked left = asked;
-    if (is_plain(call)) {
-        expect(call, &asked, call == &book_count_call ? stretch->count : stretch->rank, &left);
-        return;
-    }
-    reference_unrank(n, k, stretch->rank, left.lent[MODULES].bytes, n, left.lent[SETTINGS].bytes, n);
-    expect(call, &asked, answered(n | k << 8), &left);
-}
-
-static void expect_every_entry(const struct call *call, const struct book *book)
-{
-    for (size_t entry = 1; entry <= book->entries; entry++)
-        expect_entry(call, book, entry);
-}
 
 /* Asks for a random entry of what isn't a good book. */
 static void expect_book_refused(const struct call *call, const struct book *book, uint64_t number,
@@ -38,35 +21,14 @@ static void expect_book_refused(const struct call *call, const struct book *book
     expect_refused(call, &asked, number, place);
 }
 
-/* Written by hand: from 2:0 1:1 three of n = 2, k = 2, from 2:2 1:2 all of n = 2, k = 3, and 1:0. */
-static void worked_book(const struct call *call)
+static void by_hand(const struct call *call)
 {
-    static const struct book book = {
-        .entries = 3,
-        .stretches = {{2, 2, 6, 3}, {2, 3, 17, 18}, {1, 1, 0, 1}},
-        .length = 49,
-        .bytes = {1,  3,                                        /* the format and E */
-                  2,  2,  44, 0, 0, 0, 3,  0, 0, 0, 0, 0, 0, 0, /* n, k, the offset and the count */
-                  2,  3,  46, 0, 0, 0, 18, 0, 0, 0, 0, 0, 0, 0,
-                  1,  1,  48, 0, 0, 0, 1,  0, 0, 0, 0, 0, 0, 0,
-                  2,  33,                                       /* the bodies */
-                  66, 65,
-                  1},
-    };
-    expect_every_entry(call, &book);
+    expect_every_entry(call, &worked_book);
 }
 
-/* Counts above 2^32 with every byte different, by hand: n = 20, k = 1, from home. */
-static void worked_count(const struct call *call)
+static void long_count_by_hand(const struct call *call)
 {
-    static const struct book book = {
-        .entries = 1,
-        .stretches = {{20, 1, 0, 0x2122334455667788}},
-        .length = 36,
-        .bytes = {1, 1, 20, 1, 16, 0, 0, 0, 0x88, 0x77, 0x66, 0x55, 0x44, 0x33, 0x22, 0x21,
-                  1, 2, 3, 4, 5, 6, 7, 8, 9, 10, 11, 12, 13, 14, 15, 16, 17, 18, 19, 20},
-    };
-    expect_every_entry(call, &book);
+    expect_every_entry(call, &worked_count);
 }
 
 /* First, in the middle and last; from both ends of the round and at random, and the least and most counts. */
@@ -191,7 +153,7 @@ static void ask_every_entry(const struct call *call, const struct book *book)
     for (size_t entry = 0; entry <= book->entries + 1; entry++) {
         struct asked asked = asked_for(book, entry == 0 || entry > book->entries ? 1 : entry);
         asked.argument = entry;
-        ask(call, &asked);
+        ask_reading(call, &asked);
     }
 }
 
@@ -242,7 +204,7 @@ static void every_body_of_two(const struct call *call)
         for (unsigned body = 0; body < 1 << 16; body++) {
             struct asked asked = asked_for(&book, 1);
             put_number(book.bytes + body_at(&book, 1), 2, body);
-            ask(call, &asked);
+            ask_reading(call, &asked);
         }
     }
 }
@@ -361,7 +323,7 @@ static void random_damage(const struct call *call)
             book.length = draw(book.length + SPARE);
         struct asked asked = asked_for(&book, 1 + draw(book.entries));
         asked.argument += draw(8) == 0;
-        ask(call, &asked);
+        ask_reading(call, &asked);
     }
 }
 
@@ -369,8 +331,8 @@ void book_tests(void)
 {
     static const struct call *const calls[] = {&book_read_call, &book_count_call, &book_rank_call};
     static const struct test tests[] = {
-        {"a book written by hand", .once = worked_book},
-        {"a count of eight bytes, by hand", .once = worked_count},
+        {"a book written by hand", .once = by_hand},
+        {"a count of eight bytes, by hand", .once = long_count_by_hand},
         {"first, middle and last entries of every size, to both ends", .at_every_size = every_size},
         {"every entry of books of 1 to 64", .once = every_number_of_entries},
         {"64 entries of one size", .at_every_size = one_size},

@@ -15,9 +15,11 @@ int main(void)
     board_tests();
     pair_tests();
     book_tests();
+    book_write_tests();
     handover_tests();
     station_tests();
     listing_tests();
+    planner_tests();
     papers_tests();
     totality_tests();
     page_tests();

@@ -1,8 +1,9 @@
 /*
  * The tests of what a C user is told. The library is installed, and the first program of a page is taken from
- * it and built against the installed copy; and each command that the page prints with it is run.
+ * it and built against the installed copy; and each command that the page prints with it is run. So is the
+ * program that writes a book, which has no command; and so are ./walk and ./book, as README.md prints them.
  */
-#include "test.h"
+#include "books.h"
 
 #include <stdarg.h>
 #include <stdio.h>
@@ -106,8 +107,8 @@ static void by_pkg_config(const struct call *call)
                                        path, path));
 }
 
-/* The page, up to the heading behind its first program. */
-static const char *page_of(const struct call *call)
+/* The page from this text on, up to the heading behind the first program there. */
+static const char *page_from(const struct call *call, const char *text)
 {
     static char page[PAGE_MOST];
     char name[TEXT_MOST];
@@ -115,14 +116,20 @@ static const char *page_of(const struct call *call)
     FILE *const file = fopen(name, "r");
     const size_t length = file == NULL ? 0 : fread(page, 1, sizeof page - 1, file);
     page[length] = '\0';
-    if (file == NULL || fclose(file) != 0 || strstr(page, "\n```c\n") == NULL) {
+    char *const start = strstr(page, text);
+    if (file == NULL || fclose(file) != 0 || start == NULL || strstr(start, "\n```c\n") == NULL) {
         printf("no program in %s\n", name);
         exit(1);
     }
-    char *const heading = strstr(strstr(page, "\n```c\n"), "\n## ");
+    char *const heading = strstr(strstr(start, "\n```c\n"), "\n## ");
     if (heading != NULL)
         *heading = '\0';
-    return page;
+    return start;
+}
+
+static const char *page_of(const struct call *call)
+{
+    return page_from(call, "");
 }
 
 /* The first block behind this place that begins with the fence; empty where there is none. */
@@ -161,16 +168,31 @@ static void save_program(struct text program)
     }
 }
 
-static void strictly(const struct call *call)
+static void expect_built_strictly(struct text program)
 {
-    const struct text program = program_of(page_of(call));
     char flags[TEXT_MOST];
     const struct text found = flags_of(INSTALLED).output;
     snprintf(flags, sizeof flags, "%.*s", (int)found.length, found.bytes);
     save_program(program);
     expect_silent("build", shell("cd '%s' && rm -f strict && %s first.c -o strict %s", SCRATCH, COMPILER,
                                  flags));
-    expect_printed("run", shell("%s '%s/strict'", EMULATOR, SCRATCH), printed_by(program));
+    expect_printed("run", shell("cd '%s' && %s ./strict", SCRATCH, EMULATOR), printed_by(program));
+}
+
+static void strictly(const struct call *call)
+{
+    expect_built_strictly(program_of(page_of(call)));
+}
+
+/* What it hands on is the book that plain C makes. */
+static void book_program(const struct call *call)
+{
+    struct book book = {.entries = 2, .stretches = {{3, 2, 0, 24}, {3, 2, 24, 24}}};
+    write_book(&book);
+    expect_silent("no book yet", shell("rm -f '%s/two.book'", SCRATCH));
+    expect_built_strictly(program_of(page_from(call, "\n## Books\n")));
+    expect_printed("its book", shell("cat '%s/two.book'", SCRATCH),
+                   (struct text){book.length, (const char *)book.bytes});
 }
 
 /* Runs a block of commands where host/ and target/ are, with a home of its own; make may print before. */
@@ -200,6 +222,30 @@ static void as_printed(const struct call *call)
     }
 }
 
+/* A folder that has the scripts and the programs, and no source that is newer than they are. */
+static void lay_scripts(void)
+{
+    expect_silent("the scripts", shell("mkdir -p '%s/top/crates' && cp ../walk ../book ../.program '%s/top' && "
+                                       "ln -sfn \"$(cd ../target && pwd)\" '%s/top/target' && "
+                                       "touch -d @0 '%s/top/crates' '%s/top/crates.txt'",
+                                       SCRATCH, SCRATCH, SCRATCH, SCRATCH, SCRATCH));
+}
+
+/* Each block that begins with a command, behind a dollar sign, goes on with what it prints. */
+static void with_output(const struct call *call)
+{
+    const char *const fence = "\n```\n$ ";
+    struct text block = block_behind(page_of(call), fence);
+    expect_line(block.length > 0 ? NULL : "no command", NULL);
+    lay_scripts();
+    for (; block.length > 0; block = block_behind(behind(block), fence)) {
+        const size_t line = strcspn(block.bytes, "\n") + 1;
+        const struct text printed = {block.length - line, block.bytes + line};
+        expect_printed("a command with its output",
+                       shell("cd '%s/top' && %.*s", SCRATCH, (int)line, block.bytes), printed);
+    }
+}
+
 void page_tests(void)
 {
     static const struct call install_call = {.name = "install"};
@@ -213,7 +259,15 @@ void page_tests(void)
         {"the first program, built strictly on what is installed, prints as said", .once = strictly},
         {"the commands beside it build and run it", .once = as_printed},
     };
+    static const struct test of_scripts[] = {
+        {"./walk and ./book print as said", .once = with_output},
+    };
+    static const struct test of_books[] = {
+        {"the program that writes a book, built strictly, writes and prints as said", .once = book_program},
+    };
     run_tests(&install_call, of_install, COUNT_OF(of_install));
     for (size_t i = 0; i < COUNT_OF(pages); i++)
         run_tests(&pages[i], of_page, COUNT_OF(of_page));
+    run_tests(&pages[0], of_books, COUNT_OF(of_books));
+    run_tests(&pages[1], of_scripts, COUNT_OF(of_scripts));
 }

@@ -9,6 +9,8 @@
 #include "calls.h"
 #include "faults.h"
 #include "limpet.h"
+#include "plans.h"
+#include "readings.h"
 #include "reference.h"
 
 #include <stdio.h>
@@ -45,6 +47,11 @@ static bool is_lent_book(const struct call *call)
     return call->library.of_book != NULL || call->library.from_book != NULL;
 }
 
+static bool is_lent_lists(const struct call *call)
+{
+    return call->library.to_book != NULL;
+}
+
 /* Random bytes, of which the head may be good; or a fair book with some bytes changed, or of another length. */
 static struct bytes any_book(struct bytes fair)
 {
@@ -61,7 +68,23 @@ static struct bytes any_book(struct bytes fair)
     return book;
 }
 
-/* Puts any other into the place of each number, each length, some bytes and the book, one time in `one_in`. */
+/* Lists of one number of stretches or of any lengths, each with random bytes or those that it had. */
+static void change_lists(struct asked *asked)
+{
+    static uint8_t bytes[LISTS][LIST_MOST];
+    const size_t stretches = draw(draw(4) == 0 ? LISTED_MOST : LIMPET_MOST_ENTRIES + 3);
+    const bool is_of_one_number = draw(2) == 0;
+    for (size_t i = 0; i < LISTS; i++) {
+        struct bytes *const list = &asked->lists[i];
+        scribble_bytes(bytes[i], LIST_MOST);
+        if (list->length > 0 && draw(2) == 0)
+            memcpy(bytes[i], list->at, list->length);
+        list->at = bytes[i];
+        list->length = is_of_one_number ? stretches * width_of(i) : any_length(list->length);
+    }
+}
+
+/* Puts any other into the place of each number, length, book, list and some bytes, one time in `one_in`. */
 static void change(const struct call *call, struct asked *asked, uint64_t one_in)
 {
     uint64_t *const numbers[NUMBERS_OF_ASKED] = {&asked->n,      &asked->k,      &asked->argument,
@@ -76,8 +99,10 @@ static void change(const struct call *call, struct asked *asked, uint64_t one_in
         if (draw(one_in) == 0)
             scribble_bytes(row->bytes + draw(LIMPET_MOST_SLOTS), LIMPET_MOST_SLOTS);
     }
-    if (is_lent_book(call) && draw(one_in) == 0)
+    if ((is_lent_book(call) || is_lent_lists(call)) && draw(one_in) == 0)
         asked->book = any_book(asked->book);
+    if (is_lent_lists(call) && draw(one_in) == 0)
+        change_lists(asked);
 }
 
 /* Fair but for some faults of the call's own, fair but for some of it, or all of it anything. */
@@ -110,12 +135,14 @@ static uint64_t verdict_on(const struct call *call, const struct asked *asked, u
     return has_refusal(call, LIMPET_NUMBER(verdict)) ? verdict : 0;
 }
 
-/* A slot, or an entry of a book, or 0 for a number that has no place. */
+/* A slot, an entry of a book, a stretch, or 0 for a number that has no place. */
 static bool is_place(const struct call *call, const struct asked *asked, unsigned number, uint64_t place)
 {
     const bool of_arrangement = number >= 5 && number <= 7;
     if (is_lent_book(call) && (of_arrangement || number <= 3 || number == 15))
         return place >= 1 && place <= asked->book.at[1];
+    if (is_lent_lists(call) && (number <= 3 || number == 8 || number == 15))
+        return place >= 1 && place <= asked->lists[NS].length;
     if (!is_lent_book(call) && of_arrangement)
         return place >= first_slot(number) && place <= asked->n;
     return place == 0;
@@ -130,9 +157,10 @@ static bool is_allowed(const struct call *call, const struct asked *asked, uint6
     return has_refusal(call, number) && is_place(call, asked, number, place) && value == 0;
 }
 
-static bool has_same_rows(const struct asked *a, const struct asked *b)
+static bool has_same_bytes(const struct asked *a, const struct asked *b)
 {
-    return memcmp(a->lent[0].bytes, b->lent[0].bytes, a->lent[0].length) == 0 &&
+    return (a->book.length == 0 || memcmp(a->book.at, b->book.at, a->book.length) == 0) &&
+           memcmp(a->lent[0].bytes, b->lent[0].bytes, a->lent[0].length) == 0 &&
            memcmp(a->lent[1].bytes, b->lent[1].bytes, a->lent[1].length) == 0;
 }
 
@@ -141,9 +169,10 @@ static uint64_t ask_anything(const struct call *call)
 {
     const struct asked asked = any_asked(call);
     struct asked left = asked;
-    const uint64_t answer = ask(call, &left), verdict = verdict_on(call, &asked, answer);
+    const uint64_t answer = is_lent_book(call) ? ask_reading(call, &left) : ask(call, &left);
+    const uint64_t verdict = verdict_on(call, &asked, answer);
     expect_that(is_allowed(call, &asked, answer, verdict), call, &asked, "an answer that limpet.h allows");
-    expect_that(LIMPET_NUMBER(verdict) == 0 || has_same_rows(&asked, &left), call, &asked,
+    expect_that(LIMPET_NUMBER(verdict) == 0 || has_same_bytes(&asked, &left), call, &asked,
                 "no byte changed by a call that refuses");
     return LIMPET_NUMBER(verdict);
 }
@@ -151,7 +180,8 @@ static uint64_t ask_anything(const struct call *call)
 /* A call that doesn't come back is ended by the alarm, and the program with it. */
 static void anything(const struct call *call)
 {
-    const size_t times = is_lent_book(call) || call->library.counting != NULL ? FEWER_ASKED : ASKED;
+    const bool is_costly = is_lent_book(call) || is_lent_lists(call) || call->library.counting != NULL;
+    const size_t times = is_costly ? FEWER_ASKED : ASKED;
     bool met[UINT8_MAX + 1] = {false};
     alarm(SECONDS_MOST);
     for (size_t i = 0; i < times; i++)
@@ -173,13 +203,13 @@ static void anything_behind_a_page(const struct call *call)
 
 static bool is_lent_rows(const struct call *call)
 {
-    return has_refusal(call, 4);
+    return has_refusal(call, 4) && !is_lent_lists(call);
 }
 
 /* Buffers of a length of which the low 32 bits are right. */
 static void far_lengths(const struct call *call, size_t n, size_t k)
 {
-    for (unsigned rooms = 1; rooms < 1u << ROOMS; rooms++) {
+    for (unsigned rooms = 1; rooms < 1u << FIRST_LIST; rooms++) {
         const bool is_far[ROOMS] = {rooms & 1, rooms & 2, rooms & 4};
         const struct asked asked = call->fair(n, k);
         if (is_far[BOOK] ? !is_lent_book(call) : !is_lent_rows(call))

@@ -7,6 +7,7 @@
 #include "books.h"
 #include "calls.h"
 #include "limpet.h"
+#include "plans.h"
 #include "reference.h"
 #include "reference_board.h"
 #include "reference_pair.h"
@@ -57,6 +58,8 @@ static const struct entry entries[] = {
     {.call = &book_read_call, .asked_with = book_of_most, .inputs = BOOK_INPUTS, .name = "book read of 64"},
     {.call = &book_count_call, .asked_with = book_of_most, .inputs = BOOK_INPUTS, .name = "book count of 64"},
     {.call = &book_rank_call, .asked_with = book_of_most, .inputs = BOOK_INPUTS, .name = "book rank of 64"},
+    {.call = &book_write_call, .asked_with = plan_of_one},
+    {.call = &book_write_call, .asked_with = plan_of_most, .inputs = BOOK_INPUTS, .name = "book write of 64"},
 };
 
 static const struct {
@@ -69,30 +72,44 @@ struct batch {
     struct input {
         uint64_t argument, count;
         struct pair pair;
-        struct bytes book;
+        size_t book_length;
+        uint8_t *book;
+        struct bytes lists[LISTS];
         uint8_t rows[ROWS][ROOM];
     } inputs[INPUTS];
 };
 
-/* The books of a batch, one behind the other: as many of one entry, or fewer of 64. */
-static uint8_t shelf[INPUTS * (2 + LIMPET_ENTRY_LENGTH + LIMPET_MOST_SLOTS)];
+/* The books of a batch, one behind the other, and so the lists: as many of one entry, or fewer of 64. */
+enum { LISTED = 1 + 1 + 8 + 8 };
+static uint8_t shelf[INPUTS * (2 + LIMPET_ENTRY_LENGTH + LIMPET_MOST_SLOTS)], listed[INPUTS * LISTED];
 _Static_assert(sizeof shelf >= (size_t)BOOK_INPUTS * LIMPET_MOST_BOOK, "the longest books have room");
+_Static_assert(sizeof listed >= (size_t)BOOK_INPUTS * LIMPET_MOST_ENTRIES * LISTED, "so have the lists");
+
+/* Puts bytes where `end` is, and that behind them; answers where they are. */
+static uint8_t *put_away(uint8_t **end, struct bytes bytes)
+{
+    uint8_t *const at = *end;
+    if (bytes.length > 0)
+        memcpy(at, bytes.at, bytes.length);
+    *end += bytes.length;
+    return at;
+}
 
 static void prepare(struct batch *batch, const struct entry *entry, size_t n, size_t k)
 {
     batch->n = n;
     batch->k = k;
     batch->size = entry->inputs != 0 ? entry->inputs : INPUTS;
-    uint8_t *book = shelf;
+    uint8_t *end_of_books = shelf, *end_of_lists = listed;
     for (struct input *in = batch->inputs; in < batch->inputs + batch->size; in++) {
         const struct asked asked = (entry->asked_with != NULL ? entry->asked_with : entry->call->fair)(n, k);
         in->argument = asked.argument;
         in->count = asked.count;
         in->pair = asked.pair;
-        in->book = (struct bytes){asked.book.length, book};
-        if (asked.book.length > 0)
-            memcpy(book, asked.book.at, asked.book.length);
-        book += asked.book.length;
+        in->book_length = asked.book.length;
+        in->book = put_away(&end_of_books, asked.book);
+        for (size_t i = 0; i < LISTS; i++)
+            in->lists[i] = (struct bytes){asked.lists[i].length, put_away(&end_of_lists, asked.lists[i])};
         for (size_t i = 0; i < ROWS; i++) {
             batch->lengths[i] = asked.lent[i].length;
             memcpy(in->rows[i], asked.lent[i].bytes, ROOM);
@@ -121,11 +138,17 @@ static uint64_t call_all(const struct function *function, struct batch *batch)
                                       in->pair.e);
     else if (function->of_book != NULL)
         for (struct input *in = batch->inputs; in < end; in++)
-            sum += function->of_book(in->book.at, in->book.length, in->argument);
+            sum += function->of_book(in->book, in->book_length, in->argument);
     else if (function->from_book != NULL)
         for (struct input *in = batch->inputs; in < end; in++)
-            sum += function->from_book(in->book.at, in->book.length, in->argument, in->rows[0], first,
+            sum += function->from_book(in->book, in->book_length, in->argument, in->rows[0], first,
                                        in->rows[1], second);
+    else if (function->to_book != NULL)
+        for (struct input *in = batch->inputs; in < end; in++)
+            sum += function->to_book(in->lists[NS].at, in->lists[NS].length, in->lists[KS].at,
+                                     in->lists[KS].length, in->lists[RANKS].at, in->lists[RANKS].length,
+                                     in->lists[COUNTS].at, in->lists[COUNTS].length, in->book,
+                                     in->book_length);
     else
         for (struct input *in = batch->inputs; in < end; in++)
             sum += function->writing(n, k, in->argument, in->rows[0], first, in->rows[1], second);
@@ -146,6 +169,8 @@ static uint64_t digest_of(const struct batch *batch, uint64_t digest)
         for (size_t i = 0; i < ROWS; i++)
             for (size_t place = 0; place < ROOM; place++)
                 digest = digest * 0x100000001b3 + in->rows[i][place];
+    for (size_t place = 0; place < sizeof shelf; place++)
+        digest = digest * 0x100000001b3 + shelf[place];
     return digest;
 }
 
@@ -155,6 +180,8 @@ static double timed(const struct function *function, const struct batch *prepare
     static struct batch batch;
     static volatile uint64_t sink;
     batch = *prepared;
+    if (function->to_book != NULL)
+        memset(shelf, 0, sizeof shelf); /* nothing of what was written before is left */
     const double began = now_in_ns();
     sink = call_all(function, &batch);
     const double took = now_in_ns() - began;
@@ -168,7 +195,7 @@ static bool is_set(const struct function *function)
 {
     return function->of_sizes != NULL || function->reading != NULL || function->changing != NULL ||
            function->writing != NULL || function->counting != NULL || function->of_book != NULL ||
-           function->from_book != NULL;
+           function->from_book != NULL || function->to_book != NULL;
 }
 
 /* The best time of each column; ends the program where two columns differ in what they answer or write. */
@@ -210,7 +237,7 @@ int main(void)
     printf("ns per call, the best of %d rounds over %d random inputs, or steps of a walk\n", ROUNDS, INPUTS);
     printf("pair count: ns per arrangement of %d stretches of %d, and the plain C steps by counters\n",
            LONG_INPUTS, LIMPET_MOST_COUNTED);
-    printf("book: one entry, or 64 entries of the same size in %d books\n\n", BOOK_INPUTS);
+    printf("book: one entry or stretch, or 64 of the same size in %d books\n\n", BOOK_INPUTS);
     printf("%-16s %3s %3s %9s %9s %19s %11s %21s\n", "call", "n", "k", "library", "plain C",
            "library / plain C", "unchecked C", "library / unchecked C");
     for (size_t i = 0; i < COUNT_OF(entries); i++)

@@ -14,12 +14,12 @@
 #include <stdio.h>
 #include <stdlib.h>
 
-enum { N, K, RANK, COUNT, NUMBERS, HEAD = 2, FORMAT = 1, SETTING_WEIGHT = 32 };
+enum { N, K, RANK, COUNT, NUMBERS };
 
-/* Contents and bodies, and the end of each as far as they are written. */
-struct book {
-    uint8_t bytes[LIMPET_MOST_BOOK];
-    size_t contents, length;
+/* The lists of stretches that limpet_book_write takes. */
+struct lists {
+    uint8_t ns[LIMPET_MOST_ENTRIES], ks[LIMPET_MOST_ENTRIES];
+    uint8_t ranks[8 * LIMPET_MOST_ENTRIES], counts[8 * LIMPET_MOST_ENTRIES];
 };
 
 static void end_with_usage(void)
@@ -29,39 +29,24 @@ static void end_with_usage(void)
     exit(2);
 }
 
-static void end_with_refusal(size_t entry, uint64_t number)
+/* What a byte can't hold is refused as 255 is. */
+static uint8_t byte_of(uint64_t size)
 {
-    fprintf(stderr, "make_book: stretch %zu is refused by %" PRIu64 "\n", entry, number);
-    exit(1);
+    return (uint8_t)(size > UINT8_MAX ? UINT8_MAX : size);
 }
 
-static void put(struct book *book, size_t length, uint64_t number)
+static void put(uint8_t *list, size_t index, uint64_t number)
 {
-    for (; length > 0; length--, number >>= 8)
-        book->bytes[book->contents++] = (uint8_t)number;
+    for (size_t i = 0; i < 8; i++)
+        list[8 * index + i] = (uint8_t)(number >> 8 * i);
 }
 
-static void put_entry(struct book *book, const uint64_t numbers[NUMBERS])
+static void put_stretch(struct lists *lists, size_t index, const uint64_t numbers[NUMBERS])
 {
-    put(book, 1, numbers[N]);
-    put(book, 1, numbers[K]);
-    put(book, 4, book->length);
-    put(book, 8, numbers[COUNT]);
-}
-
-/* Refused as a reading of the book would refuse it, and by 8 where there is no such rank. */
-static void add_stretch(struct book *book, size_t entry, const uint64_t numbers[NUMBERS])
-{
-    uint8_t modules[LIMPET_MOST_SLOTS], settings[LIMPET_MOST_SLOTS];
-    const size_t n = numbers[N], k = numbers[K];
-    const uint64_t answer = limpet_unrank(n, k, numbers[RANK], modules, n, settings, n);
-    if (LIMPET_NUMBER(answer) != 0)
-        end_with_refusal(entry, LIMPET_NUMBER(answer));
-    if (numbers[COUNT] == 0 || numbers[COUNT] > limpet_round_total(n, k))
-        end_with_refusal(entry, 15);
-    put_entry(book, numbers);
-    for (size_t i = 0; i < n; i++)
-        book->bytes[book->length++] = (uint8_t)(settings[i] * SETTING_WEIGHT + modules[i]);
+    lists->ns[index] = byte_of(numbers[N]);
+    lists->ks[index] = byte_of(numbers[K]);
+    put(lists->ranks, index, numbers[RANK]);
+    put(lists->counts, index, numbers[COUNT]);
 }
 
 static void read_numbers(char *const words[NUMBERS], uint64_t numbers[NUMBERS])
@@ -75,19 +60,24 @@ static void read_numbers(char *const words[NUMBERS], uint64_t numbers[NUMBERS])
 
 int main(int argc, char *argv[])
 {
-    static struct book book;
-    const size_t words = (size_t)argc - 1, entries = words / NUMBERS;
-    if (argc < 1 || words % NUMBERS != 0 || entries < 1 || entries > LIMPET_MOST_ENTRIES)
+    static struct lists lists;
+    static uint8_t book[LIMPET_MOST_BOOK];
+    const size_t words = (size_t)argc - 1, stretches = words / NUMBERS;
+    if (argc < 1 || words % NUMBERS != 0 || stretches < 1 || stretches > LIMPET_MOST_ENTRIES)
         end_with_usage();
-    book.length = HEAD + LIMPET_ENTRY_LENGTH * entries;
-    put(&book, 1, FORMAT);
-    put(&book, 1, entries);
-    for (size_t entry = 1; entry <= entries; entry++) {
+    for (size_t i = 0; i < stretches; i++) {
         uint64_t numbers[NUMBERS];
-        read_numbers(argv + 1 + (entry - 1) * NUMBERS, numbers);
-        add_stretch(&book, entry, numbers);
+        read_numbers(argv + 1 + i * NUMBERS, numbers);
+        put_stretch(&lists, i, numbers);
     }
-    if (fwrite(book.bytes, 1, book.length, stdout) == book.length && fflush(stdout) == 0)
+    const uint64_t answer = limpet_book_write(lists.ns, stretches, lists.ks, stretches, lists.ranks,
+                                              8 * stretches, lists.counts, 8 * stretches, book, sizeof book);
+    if (LIMPET_NUMBER(answer) != 0) {
+        fprintf(stderr, "make_book: stretch %" PRIu64 " is refused by %" PRIu64 "\n", LIMPET_PLACE(answer),
+                LIMPET_NUMBER(answer));
+        return 1;
+    }
+    if (fwrite(book, 1, LIMPET_VALUE(answer), stdout) == LIMPET_VALUE(answer) && fflush(stdout) == 0)
         return 0;
     perror("make_book: standard output");
     return 1;

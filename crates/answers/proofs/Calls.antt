@@ -11,9 +11,10 @@ use Rattle.board.specs.Board.{boardLeaves}
 use Rattle.board.specs.Read.{rankRead}
 use Rattle.step.specs.Step.{stepLeaves}
 use Rattle.entry.specs.Entry.{entryLeaves}
-use Rattle.limpet.specs.Answer.{Returns, Leaves}
+use Rattle.writer.specs.Write.{Lists, writeTells, writeLeaves}
+use Rattle.limpet.specs.Answer.{Returns, Leaves, Writes}
 use Rattle.limpet.specs.Calls.{roundReturns, totalReturns, checkReturns, rankValueReturns, lookReturns, ReadReturns, verdictShown, pairReturns, bookCountReturns, bookRankReturns}
-use Rattle.limpet.proofs.Answers.{one-number, one-outcome, one-read}
+use Rattle.limpet.proofs.Answers.{one-number, one-outcome, one-writing, one-read}
 
 -- ---- calls that write nothing
 
@@ -49,6 +50,11 @@ module _ {r s : ℕ} where
 
   pub one-board-read-rank : (n k : ℕ) (cs fs : List ℕ) → ReadReturns rankRead n k cs fs r → ReadReturns rankRead n k cs fs s → r ≡ s
   one-board-read-rank n k cs fs p q = one-read p q
+
+-- ---- a call that writes one buffer, of which a or b is the content at the end
+
+pub one-book-write : (l : Lists) (buffer : List ℕ) {r s : ℕ} {a b : List ℕ} → Writes (writeTells l buffer) (writeLeaves l buffer) r a → Writes (writeTells l buffer) (writeLeaves l buffer) s b → (r ≡ s) × (a ≡ b)
+one-book-write l buffer p q = one-writing p q
 
 -- ---- calls that write two buffers, of which a and b, or c and d, are the contents at the end
 

@@ -32,6 +32,7 @@ use Rattle.line.proofs.Readings.{one-line}
 use Rattle.book.specs.Format.{formatOne}
 use Rattle.book.specs.Read.{bookVerdict, askedVerdict, lentEntryVerdict}
 use Rattle.entry.specs.Entry.{entryLeaves}
+use Rattle.writer.specs.Write.{Lists, writeVerdict, writeTells, writeLeaves}
 
 -- two answers that equal the same are equal
 one-answer : {A : Type 0} {x r s : A} → r ≡ x → s ≡ x → r ≡ s
@@ -73,11 +74,19 @@ module _ {r s : Verdict} where
   pub one-lent-entry : (book : List ℕ) (entry : ℕ) (ms ss : List ℕ) → r ≡ lentEntryVerdict formatOne book entry ms ss → s ≡ lentEntryVerdict formatOne book entry ms ss → r ≡ s
   one-lent-entry book entry ms ss p q = one-answer p q
 
+  pub one-write-check : (l : Lists) (buffer : List ℕ) → r ≡ writeVerdict l buffer → s ≡ writeVerdict l buffer → r ≡ s
+  one-write-check l buffer p q = one-answer p q
+
   pub one-walk-check : (w : Walk) → r ≡ walkVerdict w → s ≡ walkVerdict w → r ≡ s
   one-walk-check w p q = one-answer p q
 
   pub one-walk-flip-check : (w : Walk) (j : ℕ) → r ≡ walkFlipVerdict w j → s ≡ walkFlipVerdict w j → r ≡ s
   one-walk-flip-check w j p q = one-answer p q
+
+-- ---- a call that writes one buffer, of which a or b is the content at the end
+
+pub one-lent-book : (l : Lists) (buffer : List ℕ) {r s : Told} {a b : List ℕ} → (r ≡ writeTells l buffer) × (a ≡ writeLeaves l buffer) → (s ≡ writeTells l buffer) × (b ≡ writeLeaves l buffer) → (r ≡ s) × (a ≡ b)
+one-lent-book l buffer p q = (one-answer (p .0) (q .0), one-answer (p .1) (q .1))
 
 -- ---- calls that write two buffers, of which a and b, or c and d, are the contents at the end
 

@@ -16,7 +16,8 @@ use Rattle.arrangement.specs.Arrangement.{Valid}
 use Rattle.arrangement.proofs.Validity.{valid-ext}
 use Rattle.order.specs.Rank.{rank, unrankModules, unrankSettings}
 use Rattle.order.proofs.Ranks.{rank-ext, rank-lt, rank-unrank, unrank-valid, unrank-rank-module, unrank-rank-setting}
-use Rattle.book.specs.Format.{Bytes, Format, Stretch, Bookable, WellFormed, bytesOf, numberIn, mostEntries, entryPlace, bodyPlace, entryBytes, bodyBytes, joined, bookOf}
+use Rattle.book.specs.declared.format.Stretch.{Stretch}
+use Rattle.book.specs.Format.{Bytes, Format, Bookable, WellFormed, bytesOf, numberIn, mostEntries, entryPlace, bodyPlace, entryBytes, bodyBytes, joined, bookOf}
 use Rattle.book.specs.Read.{entriesOf, nOf, kOf, offsetOf, countOf, expected, modulesOf, settingsOf, rankOf, bookVerdict, askedVerdict, answersOf}
 use Rattle.book.proofs.Bytes.{bytes-long, number-back, slice-back}
 use Rattle.book.proofs.Slices.{take-slice, slice-split, at-slice, slice-row, slice-within, joined-ext, joined-slice}
@@ -43,11 +44,11 @@ two-places : (e : ℕ) → 2 ≤ entryPlace e
 unfolding entryPlace
 two-places e = omega arith
 
-entry-long : (offset : ℕ) (s : Stretch) → length (entryBytes offset s) ≡ 14
+pub entry-long : (offset : ℕ) (s : Stretch) → length (entryBytes offset s) ≡ 14
 unfolding entryBytes
 entry-long offset s = omega (arith, length-append (bytesOf 4 offset) (bytesOf 8 (s .count)), bytes-long 4 offset, bytes-long 8 (s .count))
 
-body-long : (format : Format) (s : Stretch) → length (bodyBytes format s) ≡ format .size (s .n)
+pub body-long : (format : Format) (s : Stretch) → length (bodyBytes format s) ≡ format .size (s .n)
 unfolding bodyBytes
 body-long format s = length-row _ _
 
@@ -65,31 +66,27 @@ module _ (format : Format) (e : ℕ) (s : ℕ → Stretch) where
   abbrev body : ℕ → List ℕ
   body i = bodyBytes format (s i)
 
+  -- how long they are
+  pub entries-size : (i : ℕ) → length (joined entry i) ≡ 14 * i
+  unfolding joined
+  entries-size zero = refl
+  entries-size (suc i) = omega (arith, entries-size i, length-append (joined entry i) (entry i), entry-long (placeOf i) (s i))
+
+  pub bodies-size : (i : ℕ) → entryPlace e + length (joined body i) ≡ placeOf i
+  unfolding joined bodyPlace
+  bodies-size zero = omega arith
+  bodies-size (suc i) = omega (arith, bodies-size i, length-append (joined body i) (body i), body-long format (s i))
+
   entries-long : (i : ℕ) → length (head ++ joined entry i) ≡ entryPlace i
-  unfolding joined entryPlace
-  entries-long zero = refl
-  entries-long (suc i) =
-      omega (
-        arith,
-        entries-long i,
-        length-append head (joined entry i),
-        length-append head (joined entry i ++ entry i),
-        length-append (joined entry i) (entry i),
-        entry-long (placeOf i) (s i),
-      )
+  unfolding entryPlace
+  entries-long i = omega (arith, length-append head (joined entry i), entries-size i)
 
   bodies-long : (i : ℕ) → length (head ++ joined entry e ++ joined body i) ≡ placeOf i
-  unfolding joined bodyPlace
-  bodies-long zero = ap length (append-nil (head ++ joined entry e)) ∙ entries-long e
-  bodies-long (suc i) =
-      omega (
-        arith,
-        bodies-long i,
-        length-append (head ++ joined entry e) (joined body i),
-        length-append (head ++ joined entry e) (joined body i ++ body i),
-        length-append (joined body i) (body i),
-        body-long format (s i),
-      )
+  bodies-long i = omega (arith, length-append (head ++ joined entry e) (joined body i), entries-long e, bodies-size i)
+
+  pub book-long : length (bookOf format e s) ≡ placeOf e
+  unfolding bookOf
+  book-long = bodies-long e
 
   -- each part of xs stands in its place
   pub record Laid (xs : List ℕ) : Type 0 where
@@ -279,11 +276,11 @@ module _ {format : Format} (sound : Sound format) {e : ℕ} {s : ℕ → Stretch
         ap (λ q. at xs (q + p)) (read-place i (omega arith)) ∙
         sym (at-slice xs (begins i) (begins i + format .size (s i .n)) p (omega arith)) ∙ ap (λ ys. at ys p) (laid .body-at i l) ∙ at-row _ (format .size (s i .n)) p h
 
-    read-module : (j : ℕ) → j < s i .n → modulesOf format xs i j ≡ M j
+    pub read-module : (j : ℕ) → j < s i .n → modulesOf format xs i j ≡ M j
     unfolding modulesOf
     read-module = sound .module-back (s i .n) (s i .k) M S _ (bookable i l .sizes) first-valid is-body
 
-    read-setting : (j : ℕ) → j < s i .n → settingsOf format xs i j ≡ S j
+    pub read-setting : (j : ℕ) → j < s i .n → settingsOf format xs i j ≡ S j
     unfolding settingsOf
     read-setting = sound .setting-back (s i .n) (s i .k) M S _ (bookable i l .sizes) first-valid is-body
 
@@ -308,7 +305,7 @@ module _ {format : Format} (sound : Sound format) {e : ℕ} {s : ℕ → Stretch
         rw (read-n i l, read-k i l)
         (valid-ext (λ j h. sym (read-module j h)) (λ j h. sym (read-setting j h)) first-valid)
 
-  laid-checked : 1 ≤ e → Checked format xs
+  pub laid-checked : 1 ≤ e → Checked format xs
   laid-checked some = record {
     headed = omega (arith, contents-inside, two-places e);
     number = read-number;
@@ -348,7 +345,7 @@ module _ {format : Format} (sound : Sound format) (xs : List ℕ) where
 
 -- ---- the answers determine the bytes
 
-book-ext : (format : Format) (e : ℕ) (s t : ℕ → Stretch) → ((i : ℕ) → i < e → s i ≡ t i) → bookOf format e s ≡ bookOf format e t
+pub book-ext : (format : Format) (e : ℕ) (s t : ℕ → Stretch) → ((i : ℕ) → i < e → s i ≡ t i) → bookOf format e s ≡ bookOf format e t
 unfolding bookOf
 book-ext format e s t same =
     ap₂ (λ (ys zs : List ℕ). (format .number ∷ e ∷ []) ++ ys ++ zs)

@@ -2,7 +2,7 @@
 -- those passed are Fine; and a Fine verdict says what its checks do. Assumes nothing.
 use Prim.Native.Nat.{ℕ, zero, suc, _+_, _-_, _*_, _≤_, _<_}
 use mathlib.Core.Path.{_≡_, refl, sym, _∙_, ap}
-use mathlib.Core.Bool.{Bool, true, false, cond}
+use mathlib.Core.Bool.{Bool, true, false, cond, not}
 use mathlib.Core.List.{List, _++_}
 use native.Mathlib.Nat.{not-suc-le-zero, le-refl}
 use native.Mathlib.Numerals.{add-one}
@@ -16,7 +16,7 @@ use Rattle.rows.proofs.Cases.{by-last, by-lt, by-test, opposite, inside, in-ran
 use Rattle.rows.proofs.Rows.{length-row, at-row}
 use Rattle.sizes.specs.declared.Verdict.{Verdict}
 use Rattle.sizes.specs.declared.Verdict.the-variants.{Fine, Refused}
-use Rattle.sizes.specs.Refusal.{refuses, numberOf, placeOf, first}
+use Rattle.sizes.specs.Refusal.{refuses, numberOf, placeOf, first, refusedIf}
 use Rattle.sizes.specs.Sizes.{weight, Permitted, sizesVerdict, mostSlots}
 use Rattle.sizes.proofs.Refusals.{both-fine, no-fault, faultless, last-faultless, Small, small-first, small-if}
 use Rattle.sizes.proofs.Weights.{permitted, not-refused, small-sizes}
@@ -25,7 +25,7 @@ use Rattle.arrangement.specs.Check.{lengthVerdict, slotsVerdict}
 use Rattle.arrangement.proofs.Checks.{right-length}
 use Rattle.arrangement.proofs.Validity.{valid, valid-fine, has-length, small-slots}
 use Rattle.book.specs.Format.{Bytes, Format, formatOne, numberIn, mostEntries, entryPlace, bodyPlace}
-use Rattle.book.specs.Read.{entriesOf, nOf, kOf, offsetOf, countOf, expected, modulesOf, settingsOf, inEntry, firstOf, cutVerdict, headVerdict, entryVerdict, endVerdict, contentsVerdict, bodyVerdict, bookVerdict, askedVerdict, lentEntryVerdict}
+use Rattle.book.specs.Read.{entriesOf, nOf, kOf, offsetOf, countOf, expected, modulesOf, settingsOf, inEntry, firstOf, cutVerdict, headVerdict, bookCountVerdict, entryVerdict, endVerdict, contentsVerdict, bodyVerdict, bookVerdict, askedVerdict, lentEntryVerdict}
 use Rattle.book.specs.Asked.{ContentsAsked, BodiesAsked}
 
 -- ---- verdicts about entries, in order
@@ -128,18 +128,24 @@ pub record EntryChecked (format : Format) (xs : List ℕ) (i : ℕ) : Type 0 whe
   pub count-high : countOf xs i ≤ weight (nOf xs i) (kOf xs i)
 
 pub entry-checked : (format : Format) (xs : List ℕ) (i : ℕ) → entryVerdict format xs i ≡ Fine → EntryChecked format xs i
-unfolding entryVerdict
+unfolding entryVerdict bookCountVerdict
 entry-checked format xs i e =
     let both = both-fine (sizesVerdict (nOf xs i) (kOf xs i)) _ e in
-    let rest = both-pass (offsetOf xs i) (expected format xs i) _ (no-fault 15 _ (both .1)) in
-    let range = inside 1 (weight (nOf xs i) (kOf xs i)) (countOf xs i) (rest .1) in
-    record { sizes = permitted _ _ (both .0); offset = rest .0; count-low = range .0; count-high = range .1 }
+    let rest = both-fine (refusedIf 15 (not (eqb (offsetOf xs i) (expected format xs i)))) _ (both .1) in
+    let range = inside 1 (weight (nOf xs i) (kOf xs i)) (countOf xs i) (no-fault 15 _ (rest .1)) in
+    record {
+      sizes = permitted _ _ (both .0);
+      offset = eqb-true _ _ (not-false _ (no-fault 15 _ (rest .0)));
+      count-low = range .0;
+      count-high = range .1;
+    }
 
 pub entry-fine : (format : Format) (xs : List ℕ) (i : ℕ) → EntryChecked format xs i → entryVerdict format xs i ≡ Fine
-unfolding entryVerdict first
+unfolding entryVerdict bookCountVerdict first
 entry-fine format xs i c =
     rw (← not-refused (nOf xs i) (kOf xs i) (c .sizes), first)
-    (sym (last-faultless 15 (in-place (c .offset) (in-range 1 (weight (nOf xs i) (kOf xs i)) (countOf xs i) (c .count-low) (c .count-high)))))
+    (sym (faultless 15 (right-length (offsetOf xs i) _ (c .offset))
+    (last-faultless 15 (in-range 1 (weight (nOf xs i) (kOf xs i)) (countOf xs i) (c .count-low) (c .count-high)))))
 
 -- of a book
 pub record Checked (format : Format) (xs : List ℕ) : Type 0 where
@@ -272,6 +278,10 @@ module _ (xs : List ℕ) (i : ℕ) {place : ℕ} (there : place ≡ entryPlace i
   unfolding countOf
   count-read e = let ends : place + 6 + 8 ≡ entryPlace i + 14 = omega arith in e ∙ rw (ends, there)
 
+-- a verdict about a count is about that of entry i where what was read is what the entry says
+pub count-judged : {n k count m h other : ℕ} {v : Verdict} → n ≡ m → k ≡ h → count ≡ other → v ≡ bookCountVerdict n k count → v ≡ bookCountVerdict m h other
+count-judged n-is k-is count-is e = e ∙ rw (n-is, k-is, count-is)
+
 -- ---- a body
 
 -- a verdict about the bytes from a place on is about body i where that is its place
@@ -307,7 +317,7 @@ unfolding inEntry numberOf placeOf
 small-in-entry i Fine l small = small
 small-in-entry i (Refused number place) l small = record { number = small .number; place = omega arith }
 
-small-first-of : (v : ℕ → Verdict) (m : ℕ) → m ≤ mostEntries → ((i : ℕ) → i < m → Small (v i)) → Small (firstOf v m)
+pub small-first-of : (v : ℕ → Verdict) (m : ℕ) → m ≤ mostEntries → ((i : ℕ) → i < m → Small (v i)) → Small (firstOf v m)
 unfolding firstOf numberOf placeOf
 small-first-of v zero few small = record { number = omega arith; place = omega arith }
 small-first-of v (suc m) few small =
@@ -315,8 +325,9 @@ small-first-of v (suc m) few small =
     (λ fine. small-in-entry m (v m) few (small m (omega arith)))
 
 small-entry : (format : Format) (xs : List ℕ) (i : ℕ) → Small (entryVerdict format xs i)
-unfolding entryVerdict
-small-entry format xs i = small-first _ _ (small-sizes (nOf xs i) (kOf xs i)) (λ fine. small-if 15 _ (omega arith))
+unfolding entryVerdict bookCountVerdict
+small-entry format xs i =
+    small-first _ _ (small-sizes (nOf xs i) (kOf xs i)) (λ fine. small-first _ _ (small-if 15 _ (omega arith)) (λ placed. small-if 15 _ (omega arith)))
 
 small-book : (format : Format) (xs : List ℕ) → Small (bookVerdict format xs)
 unfolding bookVerdict cutVerdict headVerdict contentsVerdict endVerdict bodyVerdict

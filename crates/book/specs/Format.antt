@@ -6,6 +6,7 @@ use mathlib.Core.List.{List, [], _∷_, _++_}
 use Rattle.rows.specs.Row.{at, row}
 use Rattle.sizes.specs.Sizes.{weight, Permitted}
 use Rattle.order.specs.Rank.{unrankModules, unrankSettings}
+use Rattle.book.specs.declared.format.Stretch.{Stretch}
 
 -- every element of a list is a byte, as in every lent buffer
 unfoldable pub Bytes : List ℕ → Type 0
@@ -64,14 +65,8 @@ bodyPlace format e n (suc i) = bodyPlace format e n i + format .size (n i)
 
 -- ---- the book of some stretches
 
--- a stretch of a round of n slots with k settings: its start rank and its count
-pub record Stretch : Type 0 where
-  pub n : ℕ
-  pub k : ℕ
-  pub rank : ℕ
-  pub count : ℕ
-
--- it may stand in a book: n and k are permitted, the rank is below T, and the count is 1 to T
+-- a stretch has n, k, its start rank and its count. It may stand in a book: n and k are permitted, the rank is below T, and the
+-- count is 1 to T
 pub record Bookable (s : Stretch) : Type 0 where
   pub sizes : Permitted (s .n) (s .k)
   pub rank-high : s .rank < weight (s .n) (s .k)
@@ -92,10 +87,16 @@ unfoldable pub joined : (ℕ → List ℕ) → ℕ → List ℕ
 joined f zero = []
 joined f (suc m) = joined f m ++ f m
 
+-- the entries of e stretches, and their bodies
+abbrev pub entriesBytes : Format → ℕ → (ℕ → Stretch) → List ℕ
+entriesBytes format e s = joined (λ i. entryBytes (bodyPlace format e (λ h. s h .n) i) (s i)) e
+
+abbrev pub bodiesBytes : Format → ℕ → (ℕ → Stretch) → List ℕ
+bodiesBytes format e s = joined (λ i. bodyBytes format (s i)) e
+
 -- the book of e stretches: format and entry number, then the entries, then the bodies
 unfoldable pub bookOf : Format → ℕ → (ℕ → Stretch) → List ℕ
-bookOf format e s =
-    (format .number ∷ e ∷ []) ++ joined (λ i. entryBytes (bodyPlace format e (λ h. s h .n) i) (s i)) e ++ joined (λ i. bodyBytes format (s i)) e
+bookOf format e s = (format .number ∷ e ∷ []) ++ entriesBytes format e s ++ bodiesBytes format e s
 
 -- a list of bytes is well formed: it is the book of 1 to 64 stretches that may stand in one
 pub record WellFormed (format : Format) (xs : List ℕ) : Type 0 where

@@ -69,11 +69,16 @@ cutVerdict end xs = refusedIf 13 (ltb (length xs) end)
 unfoldable pub headVerdict : Format → List ℕ → Verdict
 headVerdict format xs = refusedIf 14 (cond (eqb (at xs 0) (format .number)) (outside 1 mostEntries (entriesOf xs)) true)
 
--- 1, 2, 3 and 15 of entry i: 15 where the offset isn't the expected one, or the count is 0 or above T
+-- 15: a count is 0 or above T
+unfoldable pub bookCountVerdict : ℕ → ℕ → ℕ → Verdict
+bookCountVerdict n k count = refusedIf 15 (outside 1 (weight n k) count)
+
+-- 1, 2, 3 and 15 of entry i: 15 where the offset isn't the expected one, or where its count is refused
 unfoldable pub entryVerdict : Format → List ℕ → ℕ → Verdict
 entryVerdict format xs i =
     first (sizesVerdict (nOf xs i) (kOf xs i))
-    (refusedIf 15 (cond (eqb (offsetOf xs i) (expected format xs i)) (outside 1 (weight (nOf xs i) (kOf xs i)) (countOf xs i)) true))
+    (first (refusedIf 15 (not (eqb (offsetOf xs i) (expected format xs i))))
+    (bookCountVerdict (nOf xs i) (kOf xs i) (countOf xs i)))
 
 -- 16: the book's length isn't the end of the last body
 unfoldable pub endVerdict : Format → List ℕ → Verdict

@@ -9,14 +9,14 @@ ghost use mathlib.Core.Path.{_≡_};
 ghost use Prim.Native.Nat.{_+_, _<_, _≤_};
 ghost use lib.ListN.{length};
 ghost use Rattle.rows.specs.Row.{at};
-ghost use Rattle.sizes.specs.Sizes.{mostSlots};
+ghost use Rattle.sizes.specs.Sizes.{mostSlots, Permitted};
 ghost use Rattle.arrangement.specs.Check.{slotsVerdict};
 ghost use Rattle.book.specs.Format.{formatOne, mostEntries};
-ghost use Rattle.book.specs.Read.{entriesOf, expected, inEntry, firstOf, entryVerdict, contentsVerdict, bodyVerdict, bookVerdict, askedVerdict};
+ghost use Rattle.book.specs.Read.{entriesOf, expected, inEntry, firstOf, bookCountVerdict, entryVerdict, contentsVerdict, bodyVerdict, bookVerdict, askedVerdict};
 ghost use Rattle.book.specs.Asked.{ContentsAsked, BodiesAsked};
 
 // A verdict about an entry, which is counted from 0 here.
-fn in_entry(i: usize, verdict: Verdict) -> Verdict
+pub fn in_entry(i: usize, verdict: Verdict) -> Verdict
     requires { ⌜ i < mostEntries ⌝ }
     ensures { λ r. ⌜ r ≡ inEntry i verdict ⌝ }
 {
@@ -24,6 +24,20 @@ fn in_entry(i: usize, verdict: Verdict) -> Verdict
         Verdict::Fine => Verdict::Fine,
         Verdict::Refused(number, _) => Verdict::Refused(number, (i + 1) as u8),
     }
+}
+
+// The check of a count, of permitted sizes.
+pub fn judge_count(n: usize, k: usize, count: u64) -> Verdict
+    requires { ⌜ Permitted n k ⌝ }
+    ensures { λ r. ⌜ r ≡ bookCountVerdict n k count ⌝ }
+{
+    if count < 1 {
+        return Verdict::Refused(15, 0);
+    }
+    if sizes::total(n, k) < count {
+        return Verdict::Refused(15, 0);
+    }
+    Verdict::Fine
 }
 
 // The check of an entry, whose body is expected at a place.
@@ -42,14 +56,7 @@ fn judge_entry(book: &[u8], i: usize, place: usize) -> Verdict
     if offset != place as u64 {
         return Verdict::Refused(15, 0);
     }
-    let count = format::number_in(book, entry + 6, 8);
-    if count < 1 {
-        return Verdict::Refused(15, 0);
-    }
-    if sizes::total(n, k) < count {
-        return Verdict::Refused(15, 0);
-    }
-    Verdict::Fine
+    judge_count(n, k, format::number_in(book, entry + 6, 8))
 }
 
 // The check of the entries and of the book's end. Each body is expected where the one before it ends.

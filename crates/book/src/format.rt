@@ -8,6 +8,14 @@ ghost use Rattle.book.specs.Format.{mostEntries, entryPlace, numberIn, f
 
 pub const MOST_ENTRIES: usize = 64;
 
+// A stretch of a round of n slots with k settings: its start rank and its count.
+pub struct Stretch {
+    pub n: usize,
+    pub k: usize,
+    pub rank: u64,
+    pub count: u64,
+}
+
 // Where an entry begins; of the entry number, where the contents end.
 pub fn entry_place(i: usize) -> usize
     requires { ⌜ i ≤ mostEntries ⌝ }

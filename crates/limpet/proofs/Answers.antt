@@ -17,7 +17,7 @@ use Rattle.sizes.proofs.Outcomes.{refused-does, done-does, told-high}
 use Rattle.board.specs.declared.read.Reading.{Reading}
 use Rattle.board.proofs.Readings.{one-reading}
 use Rattle.limpet.specs.Calls.{ReadReturns}
-use Rattle.limpet.specs.Answer.{Answer, answerOf, packed, unpacked, Returns, Leaves}
+use Rattle.limpet.specs.Answer.{Answer, answerOf, packed, unpacked, Returns, Leaves, Writes}
 
 -- ---- one outcome
 
@@ -30,6 +30,9 @@ one-outcome p q = (
   p .one-is ∙ sym (q .one-is),
   p .two-is ∙ sym (q .two-is),
 )
+
+pub one-writing : {t : Told} {w : List ℕ} {r s : ℕ} {a b : List ℕ} → Writes t w r a → Writes t w s b → (r ≡ s) × (a ≡ b)
+one-writing p q = (p .returned-is ∙ sym (q .returned-is), p .buffer-is ∙ sym (q .buffer-is))
 
 pub one-read : {shown : Reading → ℕ} {n k : ℕ} {cs fs : List ℕ} {r s : ℕ} → ReadReturns shown n k cs fs r → ReadReturns shown n k cs fs s → r ≡ s
 one-read {shown} {n} {k} {cs} {fs} p q =
@@ -88,6 +91,13 @@ does-leaves does r-is = record {
   returned-is = r-is ∙ ap₂ (λ (w : Verdict) (y : ℕ). packed (answerOf w y)) (does .verdict-is) (does .number-is);
   one-is = does .one-is;
   two-is = does .two-is;
+}
+
+-- and so does a call that writes one buffer
+pub tells-writes : {t told : Told} {w buffer : List ℕ} {r : ℕ} → told ≡ t → buffer ≡ w → r ≡ packed (answerOf (told .verdict) (told .number)) → Writes t w r buffer
+tells-writes told-is buffer-is r-is = record {
+  returned-is = r-is ∙ ap (λ (x : Told). packed (answerOf (x .verdict) (x .number))) told-is;
+  buffer-is = buffer-is;
 }
 
 -- its number fits the bits above the place, where it is at most so much in a call that was done

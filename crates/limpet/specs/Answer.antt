@@ -4,6 +4,7 @@ use Prim.Native.Nat.{ℕ, _+_, _*_, _/_, _%_}
 use mathlib.Core.Path.{_≡_}
 use mathlib.Core.List.{List}
 use Rattle.sizes.specs.declared.Verdict.{Verdict}
+use Rattle.sizes.specs.declared.Told.{Told}
 use Rattle.sizes.specs.Refusal.{numberOf, placeOf, unlessRefused}
 use Rattle.sizes.specs.Outcome.{Outcome}
 
@@ -31,6 +32,11 @@ unpacked x = record { number = x % 256; place = x / 256 % 256; value = x / 65536
 -- of a call that writes nothing: it returns the number x
 pub record Returns (x r : ℕ) : Type 0 where
   pub returned-is : r ≡ x
+
+-- of a call that writes one buffer, of which a floor below says what it tells, t, and leaves, w: it returns t packed
+pub record Writes (t : Told) (w : List ℕ) (r : ℕ) (buffer : List ℕ) : Type 0 where
+  pub returned-is : r ≡ packed (answerOf (t .verdict) (t .number))
+  pub buffer-is : buffer ≡ w
 
 -- of a call that writes two buffers, of which a floor below says the outcome o: it returns its verdict and its number, packed
 pub record Leaves (o : Outcome) (r : ℕ) (one two : List ℕ) : Type 0 where

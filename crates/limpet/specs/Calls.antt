@@ -1,6 +1,6 @@
 -- What each call from C that writes nothing returns, as a total function of what came in. Where a call has no value, its value is 0.
 -- What a call leaves that writes is said on its floor: `flipLeaves`, `unrankLeaves`, `nextLeaves`, `boardLeaves`, `stepLeaves`,
--- `entryLeaves`.
+-- `entryLeaves`; and `writeTells` and `writeLeaves`.
 use Prim.Native.Nat.{ℕ, _-_}
 use mathlib.Core.Path.{_≡_}
 use mathlib.Core.List.{List}

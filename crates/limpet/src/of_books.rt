@@ -1,7 +1,9 @@
-// What C asks of stretch books: an entry of a book, its count, and the rank of its arrangement.
+// What C asks of stretch books: an entry of a book, its count, and the rank of its arrangement; and a book
+// written.
 use crate::answer::pack_told;
-ghost use Rattle.limpet.specs.Answer.{Returns, Leaves};
+ghost use Rattle.limpet.specs.Answer.{Returns, Leaves, Writes};
 ghost use Rattle.entry.specs.Entry.{entryLeaves};
+ghost use Rattle.writer.specs.Write.{lists, writeTells, writeLeaves};
 ghost use Rattle.limpet.specs.Calls.{bookCountReturns, bookRankReturns};
 
 #[no_mangle]
@@ -34,4 +36,17 @@ pub extern "C" fn limpet_book_rank(book: &[u8], entry: usize) -> u64
         return 0;
     }
     entry::rank(book, entry)
+}
+
+#[no_mangle]
+pub extern "C" fn limpet_book_write(
+    ns: &[u8],
+    ks: &[u8],
+    ranks: &[u8],
+    counts: &[u8],
+    book: &mut [u8],
+) -> u64
+    ensures { λ r. ⌜ Writes (writeTells (lists (now (ns .entry)) (now (ks .entry)) (now (ranks .entry)) (now (counts .entry))) (now (book .entry))) (writeLeaves (lists (now (ns .entry)) (now (ks .entry)) (now (ranks .entry)) (now (counts .entry))) (now (book .entry))) r (now (book .exit)) ⌝ }
+{
+    pack_told(writer::write::write_lent(ns, ks, ranks, counts, book))
 }

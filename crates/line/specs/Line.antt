@@ -1,8 +1,8 @@
 -- 01, the listing: its input. What is taken is what printing four numbers gives, and nothing else.
-use Prim.Native.Nat.{ℕ, _≤_, _+_, _*_, _-_}
+use Prim.Native.Nat.{ℕ, suc, _≤_, _+_, _*_, _-_}
 use mathlib.Core.Path.{_≡_}
 use mathlib.Core.Bool.{Bool, false, cond}
-use mathlib.Core.List.{List, _++_}
+use mathlib.Core.List.{List, [], _∷_, _++_}
 use lib.Dec.{leb, eqb}
 use lib.ListN.{length, drop}
 use Rattle.rows.specs.Search.{outside}
@@ -41,3 +41,10 @@ pub record NumberAt (xs : List ℕ) (from end v next : ℕ) : Type 0 where
 unfoldable pub ReadsPart : List ℕ → ℕ → ℕ → Part → Type 0
 ReadsPart xs from end (Number v next) = NumberAt xs from end v next
 ReadsPart xs from end Nothing = (v : ℕ) (ys : List ℕ) → v ≤ most → drop from xs ≡ ended v end ++ ys → ⊥
+
+-- ---- where lines end
+
+-- how many bytes the first line of some bytes has: up to its newline and with it, or all where there is none
+unfoldable pub lineLong : List ℕ → ℕ
+lineLong [] = 0
+lineLong (byte ∷ bytes) = cond (eqb byte 10) 1 (suc (lineLong bytes))

@@ -1,8 +1,9 @@
-// The input of the listing, read byte by byte. A number is checked before each digit that it takes,
-// so nothing wraps.
+// The input of the listing, one line, read byte by byte (`read`), and where lines end (`end_of`). A number
+// is checked before each digit that it takes, so nothing wraps.
 ghost use mathlib.Core.Path.{_≡_};
-ghost use Prim.Native.Nat.{_<_};
-ghost use Rattle.line.specs.Line.{Reads, ReadsPart, goesOn};
+ghost use Prim.Native.Nat.{_+_, _<_, _≤_};
+ghost use lib.ListN.{length, drop};
+ghost use Rattle.line.specs.Line.{Reads, ReadsPart, goesOn, lineLong};
 
 // What a reading answers: the four numbers of the line, or that the input is no such line.
 pub enum Line {
@@ -89,4 +90,19 @@ pub fn read(input: &[u8]) -> Line
         return Line::Bad;
     }
     Line::Numbers(n, k, r, t)
+}
+
+// Where the line that begins at a place ends: behind its newline, or where the input does.
+pub fn end_of(input: &[u8], from: usize) -> usize
+    requires { ⌜ from ≤ length (now input) ⌝ }
+    ensures { λ r. ⌜ r ≡ from + lineLong (drop from (now (input .entry))) ⌝ }
+{
+    let mut i = from;
+    while i < input.len() {
+        if input[i] == 10 {
+            return i + 1;
+        }
+        i += 1;
+    }
+    i
 }

@@ -1,20 +1,13 @@
 -- The line of an arrangement depends on its n slots alone, so it is the same of the part of a walk that is lent. Assumes nothing.
-use mathlib.Core.Path.{_≡_, refl}
+use mathlib.Core.Path.{_≡_, _∙_, ap}
 use mathlib.Core.List.{List}
-use Prim.Native.Nat.{ℕ, zero, suc, _<_}
-use native.Mathlib.Omega.{arith}
+use Prim.Native.Nat.{ℕ}
 use lib.ListN.{length, take}
 use lib.Seq.{getD-take}
 use Rattle.rows.specs.Row.{at}
-use Rattle.text.specs.Text.{slots, slotLine}
-
-slots-ext : (n : ℕ) (M S M' S' : ℕ → ℕ) → ((i : ℕ) → i < n → M i ≡ M' i) → ((i : ℕ) → i < n → S i ≡ S' i) → slots n M S ≡ slots n M' S'
-unfolding slots
-slots-ext zero M S M' S' same-M same-S = refl
-slots-ext (suc n) M S M' S' same-M same-S =
-    rw (slots-ext n M S M' S' (λ i l. same-M i (omega arith)) (λ i l. same-S i (omega arith)), same-M n (omega arith), same-S n (omega arith))
+use Rattle.text.specs.Text.{slotLine}
+use Rattle.text.proofs.Lines.{slot-line-ext}
 
 pub line-of-places : (rank flip n : ℕ) (ms ss : List ℕ) → length (take n ms) ≡ n → slotLine rank flip (length (take n ms)) (at (take n ms)) (at (take n ss)) ≡ slotLine rank flip n (at ms) (at ss)
-unfolding slotLine
 line-of-places rank flip n ms ss same =
-    rw (same, slots-ext n (at (take n ms)) (at (take n ss)) (at ms) (at ss) (λ i l. getD-take n ms i 0 l) (λ i l. getD-take n ss i 0 l))
+    ap (λ m. slotLine rank flip m (at (take n ms)) (at (take n ss))) same ∙ slot-line-ext rank flip n (λ i l. getD-take n ms i 0 l) (λ i l. getD-take n ss i 0 l)

@@ -10,8 +10,9 @@ use walk::hand::PLACES;
 ghost use Prim.Native.Nat.{_+_, _≤_};
 ghost use lib.ListN.{length};
 ghost use Rattle.rows.specs.Row.{at};
+ghost use Rattle.rows.specs.Put.{Put};
 ghost use Rattle.sizes.specs.Sizes.{mostSlots};
-ghost use Rattle.text.specs.Text.{Put, slotLine, lineMost};
+ghost use Rattle.text.specs.Text.{slotLine, lineMost};
 
 // A byte more than the longest good input, four numbers of 20 digits: more is not looked at.
 const LONGEST: usize = 85;

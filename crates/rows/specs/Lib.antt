@@ -1,3 +1,4 @@
 pub mod Row
 pub mod Search
 pub mod Copy
+pub mod Put

@@ -1,5 +1,5 @@
 -- 01, "Numbers of refusal": what a call that writes leaves. A refusal answers 0 in every other number of the answer and changes no
--- buffer. Every call that writes has two buffers lent to write in.
+-- buffer. The outcome is that of a call with two buffers lent to write in.
 use Prim.Native.Nat.{ℕ}
 use mathlib.Core.Path.{_≡_}
 use mathlib.Core.List.{List}

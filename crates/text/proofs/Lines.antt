@@ -1,57 +1,18 @@
--- Texts written one behind the other into a buffer are one text written into it, so a line is written by its parts. The lengths
--- of the lines are sums of those of their numbers. Assumes nothing.
+-- A line is written by its parts, one behind the other. The lengths of the lines are sums of those of their numbers. Assumes
+-- nothing.
 use mathlib.Core.Path.{_≡_, refl, sym, ap, _∙_}
 use mathlib.Core.List.{List, [], _∷_, _++_, append-assoc}
 use Prim.Native.Nat.{ℕ, zero, suc, _+_, _-_, _*_, _/_, _%_, _≤_, _<_}
-use native.Mathlib.Nat.{le-refl}
 use native.Mathlib.Numerals.{add-one}
 use native.Mathlib.Omega.{arith}
-use lib.ListN.{length, take, drop, getD, set, length-append, length-set}
-use lib.Seq.{paste, paste-zero, paste-suc, length-paste, take-paste, drop-paste, take-length, drop-drop, drop-cons, getD-set-same, drop-set-lt, take-set-le}
+use lib.ListN.{length, set, length-append, length-set}
+use lib.Seq.{paste}
 use Rattle.rows.specs.Row.{at}
+use Rattle.rows.specs.Put.{Put}
+use Rattle.rows.proofs.Puts.{put-length, put-both, byte-first, put-one, put-none}
 use Rattle.line.specs.Decimal.{most, decimal, ended, numbersLine}
-use Rattle.text.specs.Text.{Put, walkWord, headLine, slot, slots, slotLine, lineMost}
+use Rattle.text.specs.Text.{walkWord, refusedWord, headLine, slot, slots, slotLine, refusedAtLine, entryLine, lineMost, entryMost}
 use Rattle.line.proofs.Decimals.{decimal-one, decimal-more, long-one, long-more, long-some, long-most, long-byte}
-
--- ---- texts in a buffer
-
-pub put-length : {xs text ys : List ℕ} {from r : ℕ} → from + length text ≤ length xs → Put xs from text r ys → length ys ≡ length xs
-put-length {xs} {text} {from = from} fits p = ap length (p .holds) ∙ length-paste xs from text (length text) fits (le-refl _)
-
-pasted : (xs : List ℕ) (from : ℕ) (text : List ℕ) → paste xs from text (length text) ≡ take from xs ++ text ++ drop (from + length text) xs
-pasted xs from text = rw take-length
-
-pub put-both : {xs a b ys zs : List ℕ} {from r q : ℕ} → from + (length a + length b) ≤ length xs → Put xs from a r ys → Put ys r b q zs → Put xs from (a ++ b) q zs
-put-both {xs} {a} {b} {ys} {zs} {from} {r} {q} fits p o =
-    let far : from + length a + length b ≡ from + length (a ++ b) = simp length-append (omega arith) in
-    let e : ys ≡ paste xs from a (length a) = p .holds in
-    let front : take r ys ≡ take from xs ++ a = rw (p .ends, e) (take-paste xs from a (length a) (omega arith) (le-refl _) ∙ rw take-length) in
-    let back : drop r ys ≡ drop (from + length a) xs = rw (p .ends, e) (drop-paste xs from a (length a) (omega arith) (le-refl _)) in
-    let behind : drop (r + length b) ys ≡ drop (from + length (a ++ b)) xs =
-    sym (drop-drop (length b) r ys) ∙ ap (drop (length b)) back ∙ drop-drop (length b) (from + length a) xs ∙ ap (λ k. drop k xs) far in
-    record {
-      ends = o .ends ∙ ap (λ x. x + length b) (p .ends) ∙ far;
-      holds = o .holds ∙ pasted ys r b ∙ (rw (front, behind) (simp append-assoc)) ∙ sym (pasted xs from (a ++ b));
-    }
-
--- a text with one byte more is the text, written after that byte is stored
-byte-first : (xs : List ℕ) (from : ℕ) (text : List ℕ) (b : ℕ) → from + length text < length xs →
-    paste (set xs (from + length text) b) from text (length text) ≡ paste xs from (text ++ (b ∷ [])) (length (text ++ (b ∷ [])))
-byte-first xs from text b h =
-    let far : from + length (text ++ (b ∷ [])) ≡ suc (from + length text) = simp length-append (omega arith) in
-    let ys = set xs (from + length text) b in
-    let back : drop (from + length text) ys ≡ b ∷ drop (suc (from + length text)) xs =
-    drop-cons ys (from + length text) 0 (rw length-set h) ∙ rw (getD-set-same xs (from + length text) b 0 h, drop-set-lt (suc (from + length text)) xs (from + length text) b (le-refl _)) in
-    pasted ys from text ∙ (rw (back, take-set-le from xs (from + length text) b (omega arith), far) (simp append-assoc)) ∙ sym (pasted xs from (text ++ (b ∷ [])))
-
--- a byte
-pub put-one : (xs : List ℕ) (from b : ℕ) → from + 1 ≤ length xs → Put xs from (b ∷ []) (from + 1) (set xs from b)
-put-one xs from b h =
-    let here : from ≡ from + 0 = omega arith in
-    record {
-      ends = refl;
-      holds = ap (λ k. set xs k b) here ∙ paste-zero (set xs (from + 0) b) from [] ∙ byte-first xs from [] b (omega arith);
-    }
 
 -- ---- a number, from its last digit on
 
@@ -91,16 +52,6 @@ spelled {from = from} {ys = ys} {rest} {i} {d} so h e r-is =
           ap (λ t. paste ys from t (length t)) (sym (decimal-one rest h)) ∙ so .left;
     }
 
--- ---- a text, byte by byte
-
--- its first i bytes are written
-module _ (xs : List ℕ) (from : ℕ) (text : List ℕ) (i : ℕ) {ys : List ℕ} (e : ys ≡ paste xs from text i) where
-  pub text-long : from + i ≤ length xs → i ≤ length text → length ys ≡ length xs
-  text-long h l = rw e (length-paste xs from text i h l)
-
-  pub text-turn : from + i < length xs → i < length text → set ys (from + i) (getD text i 0) ≡ paste xs from text (i + 1)
-  text-turn h l = rw (e, add-one) (paste-suc xs from text i 0 h l)
-
 -- ---- lengths
 
 pub ended-long : (x end : ℕ) → length (ended x end) ≡ length (decimal x) + 1
@@ -128,7 +79,7 @@ slots-short (suc n) M S m s =
       slots-short n M S (λ i h. m i (omega arith)) (λ i h. s i (omega arith)),
     )
 
--- no line has more than 202 bytes
+-- no line of the listing has more than 202 bytes
 pub numbers-short : (n k r t : ℕ) → n ≤ most → k ≤ most → r ≤ most → t ≤ most → length (numbersLine n k r t) ≤ 84
 unfolding numbersLine
 numbers-short n k r t hn hk hr ht =
@@ -181,7 +132,7 @@ pub record Listed (xs : List ℕ) (from : ℕ) (ms ss ys : List ℕ) (end i : �
 
 pub listed-first : {xs ms ss : List ℕ} {from : ℕ} → Listed xs from ms ss xs from 0
 unfolding slots
-listed-first {xs} {from = from} = record { high = omega arith; put = record { ends = omega arith; holds = paste-zero xs from [] } }
+listed-first {xs} {from = from} = record { high = omega arith; put = put-none xs from }
 
 module _ {xs : List ℕ} {from : ℕ} {ms ss : List ℕ} (room : from + 8 * length ms ≤ length xs) (modules : (i : ℕ) → at ms i ≤ 255) (settings : (i : ℕ) → at ss i ≤ 255) where
   -- they end where there is room for 8 bytes for each slot that is left
@@ -210,3 +161,45 @@ unfolding slotLine
 slots-put rank flip n M S room first second third last =
     let fits = simp length-append at room in
     put-both (simp length-append (omega arith)) (put-both (simp length-append (omega arith)) (put-both (omega arith) first second) third) last
+
+-- it depends on the n slots alone
+pub slots-ext : (n : ℕ) (M S M' S' : ℕ → ℕ) → ((i : ℕ) → i < n → M i ≡ M' i) → ((i : ℕ) → i < n → S i ≡ S' i) → slots n M S ≡ slots n M' S'
+unfolding slots
+slots-ext zero M S M' S' same-M same-S = refl
+slots-ext (suc n) M S M' S' same-M same-S =
+    rw (slots-ext n M S M' S' (λ i l. same-M i (omega arith)) (λ i l. same-S i (omega arith)), same-M n (omega arith), same-S n (omega arith))
+
+pub slot-line-ext : (rank flip n : ℕ) {M S M' S' : ℕ → ℕ} → ((i : ℕ) → i < n → M i ≡ M' i) → ((i : ℕ) → i < n → S i ≡ S' i) →
+    slotLine rank flip n M S ≡ slotLine rank flip n M' S'
+unfolding slotLine
+slot-line-ext rank flip n {M} {S} {M'} {S'} same-M same-S = rw (slots-ext n M S M' S' same-M same-S)
+
+-- ---- the line of an entry
+
+pub entry-put : {xs x1 x2 ys : List ℕ} {from p1 p2 e : ℕ} (n k count rank : ℕ) (M S : ℕ → ℕ) → from + entryMost ≤ length xs → n ≤ most → k ≤ most →
+    e ≤ p2 + lineMost → Put xs from (ended n 32) p1 x1 → Put x1 p1 (ended k 32) p2 x2 → Put x2 p2 (slotLine count rank n M S) e ys →
+    Put xs from (entryLine n k count rank M S) e ys × (e ≤ from + entryMost)
+unfolding entryLine
+entry-put n k count rank M S room hn hk short first second rest =
+    let a = ended-most n 32 hn in
+    let b = ended-most k 32 hk in (
+      put-both (simp length-append (omega (arith, first .ends, second .ends, rest .ends)))
+          (put-both (omega arith) first second) rest,
+      omega (arith, first .ends, second .ends),
+    )
+
+pub entry-line-ext : (k count rank : ℕ) {n m : ℕ} {M S M' S' : ℕ → ℕ} → n ≡ m → ((i : ℕ) → i < m → M i ≡ M' i) → ((i : ℕ) → i < m → S i ≡ S' i) →
+    entryLine n k count rank M S ≡ entryLine m k count rank M' S'
+unfolding entryLine
+entry-line-ext k count rank {m = m} same same-M same-S = rw same (ap (λ line. ended m 32 ++ ended k 32 ++ line) (slot-line-ext count rank m same-M same-S))
+
+-- ---- the line of a refusal with its place
+
+pub refused-at-put : {xs x1 x2 ys : List ℕ} {from p1 p2 e number place : ℕ} → from + lineMost ≤ length xs → number ≤ most → place ≤ most →
+    Put xs from refusedWord p1 x1 → Put x1 p1 (ended number 32) p2 x2 → Put x2 p2 (ended place 10) e ys →
+    Put xs from (refusedAtLine number place) e ys × (e ≤ from + lineMost)
+unfolding refusedAtLine refusedWord
+refused-at-put {number = number} {place} room hn hp word first second =
+    let a = ended-most number 32 hn in
+    let b = ended-most place 10 hp in
+    (put-both (simp length-append (omega arith)) (put-both (omega arith) word first) second, omega (arith, word .ends, first .ends, second .ends))

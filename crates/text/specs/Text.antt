@@ -1,9 +1,7 @@
--- 01, the listing: its lines, as bytes of ASCII. A space is 32, a colon 58, and the newline that ends each line 10.
-use Prim.Native.Nat.{ℕ, zero, suc, _+_}
-use mathlib.Core.Path.{_≡_}
+-- The lines of the programs, as bytes of ASCII: those of 01's listing, and those of a book's entries and of a refusal with its
+-- place. A space is 32, a colon 58, and the newline that ends each line 10.
+use Prim.Native.Nat.{ℕ, zero, suc}
 use mathlib.Core.List.{List, [], _∷_, _++_}
-use lib.ListN.{length}
-use lib.Seq.{paste}
 use Rattle.line.specs.Decimal.{decimal, ended, numbersLine}
 
 -- the words `walk `, `next ` and `refused `
@@ -41,11 +39,19 @@ nextLine rank = nextWord ++ ended rank 10
 unfoldable pub refusedLine : ℕ → List ℕ
 refusedLine number = refusedWord ++ ended number 10
 
--- no line has more bytes: a rank and a flip of 20 digits each, 20 slots of 8 bytes each, a space and a newline
+-- the line of a refusal with its place
+unfoldable pub refusedAtLine : ℕ → ℕ → List ℕ
+refusedAtLine number place = refusedWord ++ ended number 32 ++ ended place 10
+
+-- the line of an entry of a book: n and k, and then its count, its rank and its n slots, which stand as rank, flip and slots do in
+-- the line of an arrangement
+unfoldable pub entryLine : ℕ → ℕ → ℕ → ℕ → (ℕ → ℕ) → (ℕ → ℕ) → List ℕ
+entryLine n k count rank M S = ended n 32 ++ ended k 32 ++ slotLine count rank n M S
+
+-- no line but an entry's has more bytes: a rank and a flip of 20 digits each, 20 slots of 8 bytes each, a space and a newline
 abbrev pub lineMost : ℕ
 lineMost = 202
 
--- ys is the buffer xs with a text written over it from place `from` on, and nothing else changed; the text ends before place r
-pub record Put (xs : List ℕ) (from : ℕ) (text : List ℕ) (r : ℕ) (ys : List ℕ) : Type 0 where
-  pub ends : r ≡ from + length text
-  pub holds : ys ≡ paste xs from text (length text)
+-- and an entry's has two numbers more, with a space each
+abbrev pub entryMost : ℕ
+entryMost = 244

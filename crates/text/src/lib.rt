@@ -1,2 +1,2 @@
-// The output lines of the listing (`write`), on byte slices.
+// The output lines of the programs (`write`), on byte slices.
 pub mod write;

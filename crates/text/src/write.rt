@@ -1,14 +1,17 @@
-// The lines of the listing, each written into a lent buffer from a place on. The answer is the place
+// The lines of the programs, each written into a lent buffer from a place on. The answer is the place
 // behind what was written.
+use rows::put::put_byte;
+use rows::put::put_text;
 ghost use mathlib.Core.Path.{_≡_};
-ghost use mathlib.Core.List.{[], _∷_, _++_};
+ghost use mathlib.Core.List.{_++_};
 ghost use Prim.Native.Nat.{_+_, _*_, _≤_};
 ghost use lib.ListN.{length};
 ghost use Rattle.rows.specs.Row.{at as slotOf};
+ghost use Rattle.rows.specs.Put.{Put};
 ghost use Rattle.line.specs.Decimal.{decimal, ended};
-ghost use Rattle.text.specs.Text.{Put, slot, slots, headLine, slotLine, nextLine, refusedLine, lineMost};
+ghost use Rattle.text.specs.Text.{slot, slots, headLine, slotLine, nextLine, refusedLine, refusedAtLine, entryLine, lineMost, entryMost};
 
-// The most bytes of a line.
+// The most bytes of a line of the listing.
 pub const LINE_MOST: usize = 202;
 
 // How many digits a number has.
@@ -39,28 +42,6 @@ pub fn put_number(out: &mut [u8], from: usize, number: u64) -> usize
     }
     out[i] = 48 + rest as u8;
     end
-}
-
-// One byte.
-fn put_byte(out: &mut [u8], from: usize, byte: u8) -> usize
-    requires { ⌜ from + 1 ≤ length (now out) ⌝ }
-    ensures { λ r. ⌜ Put (now (out .entry)) from (byte ∷ []) r (now (out .exit)) ⌝ }
-{
-    out[from] = byte;
-    from + 1
-}
-
-// A text.
-fn put_text(out: &mut [u8], from: usize, text: &[u8]) -> usize
-    requires { ⌜ from + length (now text) ≤ length (now out) ⌝ }
-    ensures { λ r. ⌜ Put (now (out .entry)) from (now (text .entry)) r (now (out .exit)) ⌝ }
-{
-    let mut i = 0;
-    while i < text.len() {
-        out[from + i] = text[i];
-        i += 1;
-    }
-    from + text.len()
 }
 
 // A number, and the byte that ends it.
@@ -154,4 +135,34 @@ pub fn put_refused(out: &mut [u8], from: usize, number: u8) -> usize
     ensures { λ r. ⌜ r ≤ from + lineMost ⌝ }
 {
     put_word(out, from, b"refused ", number as u64)
+}
+
+// The line of a refusal with its place.
+pub fn put_refused_at(out: &mut [u8], from: usize, number: u8, place: u8) -> usize
+    requires { ⌜ from + lineMost ≤ length (now out) ⌝ }
+    ensures { λ r. ⌜ Put (now (out .entry)) from (refusedAtLine number place) r (now (out .exit)) ⌝ }
+    ensures { λ r. ⌜ r ≤ from + lineMost ⌝ }
+{
+    let word = put_text(out, from, b"refused ");
+    let first = put_ended(out, word, number as u64, 32);
+    put_ended(out, first, place as u64, 10)
+}
+
+// The line of an entry of a book: count and rank stand where an arrangement has its rank and its flip.
+pub fn put_entry(
+    out: &mut [u8],
+    from: usize,
+    k: usize,
+    count: u64,
+    rank: u64,
+    modules: &[u8],
+    settings: &[u8],
+) -> usize
+    requires { ⌜ (from + entryMost ≤ length (now out)) × (length (now modules) ≤ 20) × (length (now settings) ≡ length (now modules)) ⌝ }
+    ensures { λ r. ⌜ Put (now (out .entry)) from (entryLine (length (now (modules .entry))) k count rank (slotOf (now (modules .entry))) (slotOf (now (settings .entry)))) r (now (out .exit)) ⌝ }
+    ensures { λ r. ⌜ r ≤ from + entryMost ⌝ }
+{
+    let first = put_ended(out, from, modules.len() as u64, 32);
+    let second = put_ended(out, first, k as u64, 32);
+    put_slots(out, second, count, rank as usize, modules, settings)
 }

@@ -4,15 +4,15 @@ use Prim.Native.Nat.{_+_, _≤_}
 use mathlib.Core.Path.{_≡_, sym, _∙_, ap₂}
 use native.Mathlib.Omega.{arith}
 use lib.ListN.{length}
-use Rattle.rows.proofs.Cases.{below-range, above-range, in-range}
 use Rattle.sizes.specs.declared.Verdict.{Verdict}
 use Rattle.sizes.specs.Refusal.{first}
-use Rattle.sizes.specs.Sizes.{weight, sizesVerdict}
-use Rattle.sizes.proofs.Refusals.{stops, goes-on, was-fine, last-faulty, last-faultless}
+use Rattle.sizes.specs.Sizes.{sizesVerdict}
+use Rattle.sizes.proofs.Refusals.{stops, goes-on, was-fine, faulty, faultless}
 use Rattle.sizes.proofs.Weights.{permitted}
+use Rattle.arrangement.proofs.Checks.{wrong-length, right-length}
 use Rattle.book.specs.Format.{formatOne, entryPlace}
 use Rattle.book.specs.Read.{nOf, kOf, offsetOf, countOf, expected, entryVerdict}
-use Rattle.book.proofs.Checks.{entry-inside, n-read, k-read, offset-read, count-read, misplaced, in-place}
+use Rattle.book.proofs.Checks.{entry-inside, n-read, k-read, offset-read, count-read, count-judged}
 use borrow.Author.Needs.{needs}
 use Rattle.book.proofs.check.judge_entry.Statement.{statement}
 use Rattle.book.proofs.check.judge_entry.Tie as tie
@@ -88,7 +88,7 @@ returns-2 : tie.Need-returns-2
 unfolding entryVerdict
 returns-2 c =
     let passed = c .before .before in
-    sizes-passed passed (last-faulty 15 (misplaced _ _ _ (λ e. c .if2 .taken (offset-is (c .before) ∙ e ∙ sym (asked (c .before))))))
+    sizes-passed passed (faulty 15 _ (wrong-length _ _ (λ e. c .if2 .taken (offset-is (c .before) ∙ e ∙ sym (asked (c .before))))))
 
 add-number-in-2 : tie.Need-add-number-in-2
 unfolding entryPlace
@@ -105,42 +105,22 @@ count-is : (c : tie.After-number-in2) →
 count-is c =
     count-read _ _ (c .before .before .before .before .before .before .before .before .entry-place .ensures) (c .number-in2 .ensures)
 
+judge-count-requires : tie.Need-judge-count-requires
+judge-count-requires c κs =
+    let passed = c .before .before .before in
+    permitted _ _ (was-fine (passed .before .before .judge .ensures) (passed .before .refuses .ensures) (passed .if1 .left))
+
+-- past the offset
 returns-3 : tie.Need-returns-3
 unfolding entryVerdict
 returns-3 c =
-    let placed = c .before .before in
-    let passed = placed .before .before in
-    sizes-passed passed (last-faulty 15 (in-place (offset-right placed) (below-range 1 _ _ (omega (arith, count-is (c .before), c .if3 .taken)))))
-
-total-requires : tie.Need-total-requires
-total-requires c κs =
-    let passed = c .before .before .before .before in
-    permitted _ _ (was-fine (passed .before .before .judge .ensures) (passed .before .refuses .ensures) (passed .if1 .left))
-
-total-is : (c : tie.After-total) →
-    let a = c .before .before .before .before .before .before .before .before .before .before .before .before .args in
-    c .total .result ≡ weight (nOf (a .book .now) (a .i)) (kOf (a .book .now) (a .i))
-total-is c =
-    let there = c .before .before .before .before .before .before .before .before .before .before .entry-place .ensures in
-    c .total .ensures ∙ ap₂ weight (n-read _ _ there) (k-read _ _ there)
-
-returns-4 : tie.Need-returns-4
-unfolding entryVerdict
-returns-4 c =
-    let counted = c .before .before .before in
+    let counted = c .before in
     let placed = counted .before in
     let passed = placed .before .before in
-    sizes-passed passed (last-faulty 15 (in-place (offset-right placed)
-    (above-range 1 _ _ (omega (arith, count-is counted, c .before .before .if3 .left)) (omega (arith, count-is counted, total-is (c .before), c .if4 .taken)))))
-
-returns-5 : tie.Need-returns-5
-unfolding entryVerdict
-returns-5 c =
-    let counted = c .before .before .before in
-    let placed = counted .before in
-    let passed = placed .before .before in
-    sizes-passed passed (last-faultless 15 (in-place (offset-right placed)
-    (in-range 1 _ _ (omega (arith, count-is counted, c .before .before .if3 .left)) (omega (arith, count-is counted, total-is (c .before), c .if4 .left)))))
+    let there = passed .before .before .before .before .before .entry-place .ensures in
+    sizes-passed passed
+    (faultless 15 (right-length _ _ (offset-right placed))
+    (count-judged (n-read _ _ there) (k-read _ _ there) (count-is counted) (c .judge-count .ensures)))
 
 pub judge-entry-spec : {M : Type 1} → statement M
 judge-entry-spec =
@@ -160,7 +140,5 @@ judge-entry-spec =
     returns-2
     add-number-in-2
     number-in-requires-2
-    returns-3
-    total-requires
-    returns-4
-    returns-5)
+    judge-count-requires
+    returns-3)

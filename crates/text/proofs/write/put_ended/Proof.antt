@@ -1,7 +1,8 @@
 -- `text::write::put_ended` meets its contract: it writes the number, and the byte behind it. Assumes nothing.
 use native.Mathlib.Omega.{arith}
 use Rattle.line.specs.Decimal.{ended}
-use Rattle.text.proofs.Lines.{put-both, ended-long}
+use Rattle.rows.proofs.Puts.{put-both}
+use Rattle.text.proofs.Lines.{ended-long}
 use borrow.Author.Needs.{needs}
 use Rattle.text.proofs.write.put_ended.Statement.{statement}
 use Rattle.text.proofs.write.put_ended.Tie as tie

@@ -1,6 +1,7 @@
 -- `text::write::put_word` meets its contract: it writes the word, and the number with its newline behind it. Assumes nothing.
 use native.Mathlib.Omega.{arith}
-use Rattle.text.proofs.Lines.{put-both, ended-most, word-short}
+use Rattle.rows.proofs.Puts.{put-both}
+use Rattle.text.proofs.Lines.{ended-most, word-short}
 use borrow.Author.Needs.{needs}
 use Rattle.text.proofs.write.put_word.Statement.{statement}
 use Rattle.text.proofs.write.put_word.Tie as tie

@@ -1,14 +1,14 @@
--- `text::write::put_text` meets its contract. The loop's invariant: the first i bytes of the text are written. The measure is the
+-- `rows::put::put_text` meets its contract. The loop's invariant: the first i bytes of the text are written. The measure is the
 -- number of bytes left. Assumes nothing.
 use Prim.Native.Nat.{_≤_, _-_}
 use mathlib.Core.Path.{_≡_, _∙_}
 use native.Mathlib.Omega.{arith}
 use lib.ListN.{length}
 use lib.Seq.{paste, paste-zero}
-use Rattle.text.proofs.Lines.{text-long, text-turn}
+use Rattle.rows.proofs.Puts.{text-long, text-turn}
 use borrow.Author.Needs.{needs}
-use Rattle.text.proofs.write.put_text.Statement.{statement}
-use Rattle.text.proofs.write.put_text.Tie as tie
+use Rattle.rows.proofs.put.put_text.Statement.{statement}
+use Rattle.rows.proofs.put.put_text.Tie as tie
 
 abbrev Inv-loop : tie.InvT-loop
 Inv-loop out₀ from text i₀ out i = (i ≤ length text) × (out ≡ paste out₀ from text i)

@@ -1,8 +1,8 @@
--- `text::write::put_byte` meets its contract: one store writes a text of one byte. Assumes nothing.
-use Rattle.text.proofs.Lines.{put-one}
+-- `rows::put::put_byte` meets its contract: one store writes a text of one byte. Assumes nothing.
+use Rattle.rows.proofs.Puts.{put-one}
 use borrow.Author.Needs.{needs}
-use Rattle.text.proofs.write.put_byte.Statement.{statement}
-use Rattle.text.proofs.write.put_byte.Tie as tie
+use Rattle.rows.proofs.put.put_byte.Statement.{statement}
+use Rattle.rows.proofs.put.put_byte.Tie as tie
 
 slice-write-out : tie.Need-slice-write-out
 slice-write-out c = search needs

@@ -1,0 +1,2 @@
+-- `Printings` has what is printed by a verdict that is known.
+pub mod Printings
