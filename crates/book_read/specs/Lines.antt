@@ -9,9 +9,10 @@ use Rattle.book.specs.Read.{entriesOf, nOf, kOf, countOf, rankOf, modulesOf, se
 unfoldable pub lineOf : List ℕ → ℕ → List ℕ
 lineOf xs i = entryLine (nOf xs i) (kOf xs i) (countOf xs i) (rankOf formatOne xs i) (modulesOf formatOne xs i) (settingsOf formatOne xs i)
 
+-- the lines of all entries
 unfoldable pub linesOf : List ℕ → List ℕ
 linesOf xs = joined (lineOf xs) (entriesOf xs)
 
--- the lines of all entries have no more bytes
+-- they have no more bytes
 abbrev pub linesMost : ℕ
 linesMost = mostEntries * entryMost

@@ -23,6 +23,7 @@ unfoldable pub behind : ℕ → List ℕ → List ℕ
 behind zero xs = xs
 behind (suc i) xs = drop (lineLong (behind i xs)) (behind i xs)
 
+-- line i, with its newline
 unfoldable pub lineAt : ℕ → List ℕ → List ℕ
 lineAt i xs = take (lineLong (behind i xs)) (behind i xs)
 
@@ -65,6 +66,7 @@ pub record Failing (xs ns ks ranks counts : List ℕ) (line : ℕ) : Type 0 wher
   pub some : 1 ≤ length (behind i xs)
   pub bad : Reads (lineAt i xs) noLine
 
+-- what is taken of the input xs: so many stretches in the four lists, or a bad line
 unfoldable pub Takes : List ℕ → List ℕ → List ℕ → List ℕ → List ℕ → Taken → Type 0
 Takes xs ns ks ranks counts (Stretches m) = Taking xs ns ks ranks counts m
 Takes xs ns ks ranks counts (Bad line) = Failing xs ns ks ranks counts line
@@ -76,10 +78,12 @@ unfoldable pub takenVerdict : Taken → Lists → List ℕ → Verdict
 takenVerdict (Bad line) l buffer = Refused 17 line
 takenVerdict (Stretches m) l buffer = writeVerdict (listed m (l .ns) (l .ks) (l .ranks) (l .counts)) buffer
 
+-- the book of the stretches that were taken
 unfoldable pub takenBook : Taken → Lists → List ℕ
 takenBook (Bad line) l = []
 takenBook (Stretches m) l = bookLent (listed m (l .ns) (l .ks) (l .ranks) (l .counts))
 
+-- of any input xs that book is printed, or the refusal, from lists that have what the lines of xs say
 pub record Answers (xs before : List ℕ) (r : Printed) (after : List ℕ) : Type 0 where
   pub l : Lists
   pub taken : Taken

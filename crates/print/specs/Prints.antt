@@ -17,11 +17,12 @@ pub record Refuses (number place : ℕ) (before : List ℕ) (r : Printed) (after
   pub put : Put before 0 (refusedAtLine number place) (r .end) after
   pub inside : r .end ≤ length after
 
+-- what a verdict has printed: the text, or the line of the refusal
 unfoldable pub printed : Verdict → List ℕ → List ℕ
 printed Fine text = text
 printed (Refused number place) text = refusedAtLine number place
 
--- r is what is printed by the verdict v
+-- r is what the verdict v has printed, which was written into the buffer
 pub record Prints (v : Verdict) (text before : List ℕ) (r : Printed) (after : List ℕ) : Type 0 where
   pub refused-is : r .refused ≡ refuses v
   pub put : Put before 0 (printed v text) (r .end) after

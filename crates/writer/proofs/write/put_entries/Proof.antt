@@ -7,7 +7,7 @@ use lib.ListN.{length}
 use Rattle.rows.specs.Row.{at}
 use Rattle.rows.specs.Put.{Put}
 use Rattle.book.specs.Format.{formatOne, entryPlace, bodyPlace}
-use Rattle.writer.specs.Write.{Lists, lists}
+use Rattle.writer.specs.Write.{Lists, lists, stretchAt}
 use Rattle.writer.proofs.Pieces.{place-first, place-next, place-high, joined-first, joined-all, entriesTo, entries-kept, entry-room, entries-on}
 use borrow.Author.Needs.{needs}
 use Rattle.writer.proofs.write.put_entries.Statement.{statement}
@@ -39,12 +39,13 @@ stretch-at-requires c κs = (begun (c .before) .pre .0 .one-length, c .loop-test
 
 -- the next body begins within the longest book
 fits : (c : tie.In-loop Inv-loop μ-loop) →
-    let ns = begun (c .before) .args .ns .now in bodyPlace formatOne (length ns) (at ns) (c .before .loop .i) ≤ 17218
-unfolding entryPlace
+    let ns = begun (c .before) .args .ns .now in bodyPlace formatOne (length ns) (at ns) (c .before .loop .i) ≤ 2178
+unfolding entryPlace stretchAt
 fits c =
     let start = begun (c .before) in
     let ns = start .args .ns .now in
-    omega (arith, start .pre .0 .one-length .few, c .before .loop .inv .0, place-high (length ns) (at ns) 255 (c .before .loop .i) (λ j l. omega (arith, c .before .before .before .before .before .before .shared-slice-known .given j)))
+    let passed = c .before .loop .inv .0 in
+    omega (arith, start .pre .0 .one-length .few, passed, place-high (length ns) (at ns) 20 (c .before .loop .i) (λ h l. start .pre .0 .bookable h (omega (arith, l, passed)) .sizes .n-high))
 
 add-put-entry : tie.Need-add-put-entry Inv-loop μ-loop
 add-put-entry c = omega (arith, c .before .before .before .loop .inv .1, fits (c .before .before))
