@@ -1,5 +1,7 @@
 // The reader of books: reads a book from standard input and prints a line for each entry, n k count rank
 // and its slots. A book that is refused prints only the line of its refusal, on standard error.
+#![tactic(auto)]
+
 ghost use Rattle.std.specs.Prelude.{◌≡◌, ◌+◌, ◌-◌, ◌≤◌, length};
 ghost use Rattle.rows.specs.Put.{Put};
 ghost use Rattle.sizes.specs.declared.Verdict.TheVariants.{Fine};

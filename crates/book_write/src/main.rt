@@ -1,6 +1,8 @@
 // The writer of books: reads lines n k rank count from standard input, a stretch a line, and writes the
 // bytes of their book to standard output. What is refused prints only the line of its refusal, on standard
 // error; a line that can't be read is refused before anything else, by its number.
+#![tactic(auto)]
+
 ghost use Rattle.std.specs.Prelude.{◌≡◌, ◌*◌, ◌≤◌, length};
 ghost use Rattle.text.specs.Text.{line_most};
 ghost use Rattle.print.specs.Prints.{Prints};

@@ -1,5 +1,7 @@
 // What an entry of a book says, 01's entry 1 to E: the reading of any bytes (`read_lent`), the check that
 // it begins with (`judge`), and what each reads of a book that has been checked.
+#![tactic(auto)]
+
 ghost use Rattle.std.specs.Prelude.{◌≡◌, ◌-◌, ◌≤◌, length};
 ghost use Rattle.rows.specs.Row.{row};
 ghost use Rattle.sizes.specs.Outcome.{Does};

@@ -1,4 +1,6 @@
 // One flip of an arrangement: the first j slots turned round, and their settings raised by one.
+#![tactic(auto)]
+
 ghost use Rattle.std.specs.Prelude.{◌≡◌, ◌≤◌, ◌<◌, length};
 ghost use Rattle.rows.specs.Row.{at, row, front};
 ghost use Rattle.sizes.specs.Outcome.{Does};

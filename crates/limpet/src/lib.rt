@@ -1,5 +1,7 @@
 // What C calls: plain numbers and lent byte buffers in, one number back. Each function here asks a floor
 // below and packs its answer; none has a `requires`.
+#![tactic(auto)]
+
 mod answer;
 pub mod of_arrangements;
 pub mod of_boards;

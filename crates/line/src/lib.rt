@@ -1,5 +1,7 @@
 // The input of the listing, one line, read byte by byte (`read`), and where lines end (`end_of`). A number
 // is checked before each digit that it takes, so nothing wraps.
+#![tactic(auto)]
+
 ghost use Rattle.std.specs.Prelude.{◌≡◌, ◌+◌, ◌<◌, ◌≤◌, length, drop};
 ghost use Rattle.line.specs.Line.{Reads, ReadsPart, goes_on_lem, line_long};
 

@@ -1,5 +1,7 @@
 // The listing: reads one line, n k r t, from standard input and lists the t arrangements from rank r
 // on, each with its rank and the flip out of it. Output goes out in large writes.
+#![tactic(auto)]
+
 ghost use Rattle.std.specs.Prelude.{◌+◌, ◌≤◌, length};
 ghost use Rattle.rows.specs.Row.{at};
 ghost use Rattle.rows.specs.Put.{Put};

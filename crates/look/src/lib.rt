@@ -1,5 +1,7 @@
 // The flip by looking, and the next arrangement. It looks from slot to slot and stops where the slots
 // stop falling, so it costs as many slots as the flip is long.
+#![tactic(auto)]
+
 ghost use Rattle.std.specs.Prelude.{◌≡◌, ◌≤◌};
 ghost use Rattle.rows.specs.Row.{at, row};
 ghost use Rattle.rows.specs.Search.{if_lt};

@@ -1,5 +1,7 @@
 // What a program prints: a text on standard output, or the line of a refusal on standard error. Programs
 // work on slices, and leave the streams to this.
+#![tactic(auto)]
+
 ghost use Rattle.std.specs.Prelude.{◌≤◌, length};
 ghost use Rattle.text.specs.Text.{line_most};
 ghost use Rattle.print.specs.Prints.{Refuses};

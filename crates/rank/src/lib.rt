@@ -1,6 +1,8 @@
 // The rank of an arrangement: the last digit times its weight, and the rank of the slots before the
 // last, renamed. The slots are renamed where they stand, in rows by value that are lent from call to
 // call. The check of a rank is in `check`.
+#![tactic(auto)]
+
 pub mod check;
 
 ghost use Rattle.std.specs.Prelude.{◌≡◌, suc, ◌+◌, ◌*◌, ◌≤◌, ◌<◌};

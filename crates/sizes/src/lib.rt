@@ -1,5 +1,7 @@
 // The sizes of a round: which n and k are permitted, and T, the number of arrangements. Here too is
 // the verdict, in which every check of every floor answers.
+#![tactic(auto)]
+
 ghost use Rattle.std.specs.Prelude.{◌≡◌};
 ghost use Rattle.sizes.specs.Refusal.{refuses};
 ghost use Rattle.sizes.specs.Sizes.{weight, sizes_verdict, Permitted};

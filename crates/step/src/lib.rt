@@ -1,5 +1,7 @@
 // One step of a board, and its check. It reads the pointer at s and what it points to, and looks no
 // further, so that it costs the same whatever n is.
+#![tactic(auto)]
+
 ghost use Rattle.std.specs.Prelude.{◌≡◌, cond, suc, ◌+◌, ◌≤◌, ◌<◌, length};
 ghost use Rattle.sizes.specs.Sizes.{most_slots};
 ghost use Rattle.board.specs.Board.{place as place_of};

@@ -1,4 +1,6 @@
 // The check of a stretch, and the pair count over one (`pair`).
+#![tactic(auto)]
+
 pub mod pair;
 
 ghost use Rattle.std.specs.Prelude.{◌≡◌};

@@ -1,2 +1,4 @@
 // The output lines of the programs (`write`), on byte slices.
+#![tactic(auto)]
+
 pub mod write;

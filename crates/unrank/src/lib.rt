@@ -1,5 +1,7 @@
 // The arrangement of a rank: the digits are taken off from the lowest up, and with each the slots
 // before it have their renaming undone, where they stand.
+#![tactic(auto)]
+
 ghost use Rattle.std.specs.Prelude.{◌≡◌, suc, ◌+◌, ◌/◌, ◌≤◌, ◌<◌, set};
 ghost use Rattle.rows.specs.Row.{at, row};
 ghost use Rattle.rows.specs.Search.{if_lt};

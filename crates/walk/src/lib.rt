@@ -1,2 +1,4 @@
 // The walk in hand (`hand`).
+#![tactic(auto)]
+
 pub mod hand;

@@ -1,5 +1,7 @@
 // Books written: the stretches of four lent lists (`lists`), their check (`check`), and the bytes of their
 // book (`write`).
+#![tactic(auto)]
+
 pub mod check;
 mod lists;
 pub mod write;
