@@ -16,7 +16,7 @@ use rows::copy::WIDE;
 use sizes::Verdict;
 
 // What a reading answers: the rank, or the number and place of a refusal.
-#[derive(Drop)]
+#[derive(Clone, Copy)]
 pub enum Reading {
     Rank(u64),
     Unread(u8, u8),

@@ -7,7 +7,7 @@ ghost use Rattle.book.specs.Format.{most_entries, entry_place_lem, number_in, fo
 pub const MOST_ENTRIES: usize = 64;
 
 // A stretch of a round of n slots with k settings: its start rank and its count.
-#[derive(Drop)]
+#[derive(Clone, Copy)]
 pub struct Stretch {
     pub n: usize,
     pub k: usize,

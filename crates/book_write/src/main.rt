@@ -25,7 +25,7 @@ const WORDS: usize = 520;
 const LONGEST: usize = 5461;
 
 // What is made of the input: stretches, so many, or a line that can't be read, by its number.
-#[derive(Drop)]
+#[derive(Clone, Copy)]
 enum Taken {
     Stretches(usize),
     Bad(u8),

@@ -40,7 +40,7 @@ pub fn raise(k: usize, setting: u8) -> u8
 }
 
 // A turned copy of the first j slots, and 0 behind them.
-#[derive(Drop)]
+#[derive(Clone, Copy)]
 struct Turned {
     modules: [u8; WIDE],
     settings: [u8; WIDE],

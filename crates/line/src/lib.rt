@@ -6,14 +6,14 @@ ghost use Rattle.std.specs.Prelude.{◌≡◌, ◌+◌, ◌<◌, ◌≤◌, leng
 ghost use Rattle.line.specs.Line.{Reads, ReadsPart, goes_on_lem, line_long};
 
 // What a reading answers: the four numbers of the line, or that the input is no such line.
-#[derive(Drop)]
+#[derive(Clone, Copy)]
 pub enum Line {
     Numbers(u64, u64, u64, u64),
     Bad,
 }
 
 // One number and the place behind the byte that ends it, or that there is none.
-#[derive(Drop)]
+#[derive(Clone, Copy)]
 enum Part {
     Number(u64, usize),
     Nothing,

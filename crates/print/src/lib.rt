@@ -10,7 +10,7 @@ use libc::{STDERR_FILENO, STDOUT_FILENO};
 use text::write;
 
 // What stands in a buffer up to `end`, and whether it is the line of a refusal.
-#[derive(Drop)]
+#[derive(Clone, Copy)]
 pub struct Printed {
     pub refused: bool,
     pub end: usize,

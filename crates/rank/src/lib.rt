@@ -17,7 +17,7 @@ use rows::copy;
 use rows::copy::WIDE;
 
 // A rank, and the number of ranks of as many slots.
-#[derive(Drop)]
+#[derive(Clone, Copy)]
 pub struct Ranked {
     pub rank: u64,
     pub weight: u64,

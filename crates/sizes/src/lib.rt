@@ -7,7 +7,7 @@ ghost use Rattle.sizes.specs.Refusal.{refuses};
 ghost use Rattle.sizes.specs.Sizes.{weight, sizes_verdict, Permitted};
 
 // What a check answers: nothing to refuse, or a number of the table of refusals with its place.
-#[derive(Drop)]
+#[derive(Clone, Copy)]
 pub enum Verdict {
     Fine,
     Refused(u8, u8),
@@ -25,7 +25,7 @@ impl Verdict {
 }
 
 // What a call answers: its verdict, and a number that was asked for, 0 where it was refused or has none.
-#[derive(Drop)]
+#[derive(Clone, Copy)]
 pub struct Told {
     pub verdict: Verdict,
     pub number: u64,

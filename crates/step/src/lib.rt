@@ -95,7 +95,7 @@ fn fill(s: usize, x: usize, counters: &mut [u8], pointers: &mut [u8])
 }
 
 // What a step answers: the length of the flip, and whether the round closed.
-#[derive(Drop)]
+#[derive(Clone, Copy)]
 pub struct Stepped {
     pub flip: usize,
     pub closed: bool,

@@ -17,7 +17,7 @@ use rows::copy::WIDE;
 use sizes::Verdict;
 
 // Where a module stands: its slot, counted from 0, and its setting.
-#[derive(Drop)]
+#[derive(Clone, Copy)]
 pub struct Seat {
     pub slot: usize,
     pub setting: u8,

@@ -15,7 +15,7 @@ use sizes::{Told, Verdict};
 
 pub const PLACES: usize = sizes::MOST_SLOTS;
 
-#[derive(Drop)]
+#[derive(Clone, Copy)]
 pub struct Walk {
     pub n: usize,
     pub k: usize,
@@ -24,14 +24,14 @@ pub struct Walk {
 }
 
 // A verdict, and the walk that was made.
-#[derive(Drop)]
+#[derive(Clone, Copy)]
 pub struct Made {
     pub verdict: Verdict,
     pub walk: Walk,
 }
 
 // A verdict, the flip that was made, and the walk after it.
-#[derive(Drop)]
+#[derive(Clone, Copy)]
 pub struct Moved {
     pub verdict: Verdict,
     pub flip: usize,
