@@ -42,6 +42,7 @@ lower_all k h = ap (λ x. x % k) (omega arith) ∙ mod-eq_of_lt {n = k - 1} (ome
 pub rank_last : (m k : ℕ) → 1 ≤ k → suc (rank m k (last_modules m) (last_settings k)) ≡ weight m k
 unfolding rank last_digit_lem last_modules last_settings
 rank_last zero k h = sym (weight_zero k)
+rank_last (suc m) zero h = elim h [ ]
 rank_last (suc m) (suc j) h =
     let ih = rank_last m (suc j) h in
     let e : rank m (suc j) (prefix_modules m (λ i. suc m - i)) (prefix_settings m (suc j) (λ i. suc m - i) (λ i. suc j - 1)) ≡ rank m (suc j) (λ i. m - i) (λ i. suc j - 1)
