@@ -1,0 +1,12 @@
+-- `rank::rank` meets its contract: the loaded rows agree with the lent ones on every slot. Assumes nothing.
+use mathlib.Core.Path.{◌∙◌}
+use Rattle.order.proofs.Recursion.{loaded}
+use Rattle.rank.proofs.rank.Goals as goal
+
+pub rank_slots-ranked-requires : goal.rank_slots-ranked-requires
+rank_slots-ranked-requires c =
+    (loaded c.requires c.load-copied_modules.ensures c.load-copied_settings.ensures).0
+
+pub returns : goal.returns
+returns c =
+    c.rank_slots-ranked.ensures.0 ∙ (loaded c.requires c.load-copied_modules.ensures c.load-copied_settings.ensures).1
