@@ -1,0 +1,40 @@
+use Prim.Native.Nat.{◌+◌, ◌-◌, ◌*◌}
+use mathlib.Core.Path.{◌≡◌, ◌∙◌}
+use native.Mathlib.Omega.{arith}
+use Rattle.rows.proofs.Rows.{begun, stored}
+use Rattle.order.specs.Digits.{digit}
+use Rattle.board.proofs.Writing.{none_taken, digit_taken, above_taken, TakenFits, next_fits}
+use borrow.Author.Rules.{rules}
+use Rattle.board.proofs.write.take_digits.Reads as reads
+use Rattle.board.proofs.write.take_digits.Lts as lts
+use Rattle.board.proofs.write.take_digits.Goals as goal
+
+pub loop-i-init : goal.loop-i-init
+loop-i-init c = (search rules, none_taken _ _, begun _ _)
+
+-- the digit that is taken off is small
+fits : (c : lts.In-loop reads.Pre reads.Post invariant_loop decreases_loop) → TakenFits (c.before.before.args.k * (c.before.loop.i + 1)) c.before.loop.above
+fits c = next_fits c.before.before.requires c.before.loop.i c.before.loop.above c.loop-test.true
+
+pub overflow_mul-base : goal.overflow_mul-base
+overflow_mul-base c = omega (arith, fits c)
+
+pub nonzero_rem-taken : goal.nonzero_rem-taken
+nonzero_rem-taken c = omega (arith, fits c)
+
+pub overflow_cast-taken : goal.overflow_cast-taken
+overflow_cast-taken c = omega (arith, fits c)
+
+pub nonzero_div-above : goal.nonzero_div-above
+nonzero_div-above c = omega (arith, fits c)
+
+pub loop-i-preserved : goal.loop-i-preserved
+loop-i-preserved c = (
+  search rules,
+  above_taken _ _ c.loop-i.i c.loop-i.invariant.1,
+  stored _ _ _ c.loop-i.invariant.2 (omega arith) (digit_taken _ _ c.loop-i.i c.loop-i.invariant.1),
+)
+
+pub returns : goal.returns
+returns c =
+    let e : c.loop-i.i ≡ c.args.n = omega arith in c.loop-i.invariant.2 ∙ rw e

@@ -1,0 +1,11 @@
+-- `board::write::write` meets its contract: the digits of the rank are taken off, and their board is stored into both buffers.
+-- Assumes nothing.
+use Rattle.board.proofs.Writing.{digit_at, counters_stored, pointers_stored, is_board}
+use Rattle.board.proofs.write.write.Goals as goal
+
+pub returns : goal.returns
+returns c =
+    let asked = c.requires in
+    is_board (digit_at _ c.take_digits-taken.ensures)
+    (counters_stored _ _ _ _ c.counters.ensures c.store.ensures asked.lent.counters)
+    (pointers_stored _ _ _ _ c.pointers.ensures c.store-2.ensures asked.lent.pointers)
