@@ -6,8 +6,8 @@ use Rattle.board.proofs.Readings.{buffers_refused}
 use Rattle.board.proofs.read.read.Goals as goal
 
 pub read_lent-requires : goal.read_lent-requires
-read_lent-requires c = lent_board (fit _ _ _ _ _ (sym c.judge_buffers.ensures ∙ c.enum_told-1.given.1))
+read_lent-requires c = lent_board (fit _ _ _ _ _ (sym c.judge_buffers.ensures ∙ c.in-Fine.is))
 
 pub returns-in-Refused : goal.returns-in-Refused
 returns-in-Refused c =
-    buffers_refused _ _ _ _ c.number-1.given.0.0 c.number-1.given.0.1.0 c.judge_buffers.ensures c.number-1.given.1
+    buffers_refused _ _ _ _ c.in-Refused.number c.in-Refused.place c.judge_buffers.ensures c.in-Refused.is

@@ -1,12 +1,11 @@
 use Prim.Native.Nat.{◌+◌, ◌-◌}
 use mathlib.Core.Path.{◌≡◌, sym, ◌∙◌}
-use mathlib.Core.Logic.{⊎_elim}
 use native.Mathlib.Omega.{arith}
 use Rattle.rows.specs.Row.{at}
 use Rattle.rows.specs.Search.{if_lt}
 use Rattle.rows.proofs.Cases.{if_lt_lem, if_ge}
 use Rattle.board.proofs.Readings.{reading_first, reading_on}
-use Rattle.board.proofs.read.read_digits.Goals.{Joined-j-pointer}
+use Rattle.board.proofs.read.read_digits.Goals.{Joined-j-pointer, then-j-pointer, else-j-pointer}
 use Rattle.board.proofs.read.read_digits.Goals as goal
 
 pub loop-i-init : goal.loop-i-init
@@ -33,7 +32,11 @@ bounds-read-i c = omega (arith, c.requires.sizes.n_high)
 end_met : (c : Joined-j-pointer) →
     let pointer = at c.args.pointers.now c.loop-i.i in
     c.if-j-pointer.end ≡ if_lt (c.loop-i.i + 1) pointer pointer c.loop-i.end
-end_met c = ⊎_elim (λ t. t.1 ∙ sym (if_lt_lem _ _ t.0.taken)) (λ t. t.1 ∙ sym (if_ge _ _ t.0.left)) c.if-j-pointer.branch
+end_met c =
+    elim c.if-j-pointer.branch [
+      | then-j-pointer w ↦ w.end-is ∙ sym (if_lt_lem _ _ w.if-j-pointer.true)
+      | else-j-pointer w ↦ w.end-is ∙ sym (if_ge _ _ w.if-j-pointer.false)
+    ]
 
 pub loop-i-preserved : goal.loop-i-preserved
 loop-i-preserved c =

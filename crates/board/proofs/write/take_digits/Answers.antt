@@ -5,28 +5,27 @@ use Rattle.rows.proofs.Rows.{begun, stored}
 use Rattle.order.specs.Digits.{digit}
 use Rattle.board.proofs.Writing.{none_taken, digit_taken, above_taken, TakenFits, next_fits}
 use borrow.Author.Rules.{rules}
-use Rattle.board.proofs.write.take_digits.Reads as reads
-use Rattle.board.proofs.write.take_digits.Lts as lts
+use Rattle.board.proofs.write.take_digits.Goals.{In-loop-i}
 use Rattle.board.proofs.write.take_digits.Goals as goal
 
 pub loop-i-init : goal.loop-i-init
 loop-i-init c = (search rules, none_taken _ _, begun _ _)
 
 -- the digit that is taken off is small
-fits : (c : lts.In-loop reads.Pre reads.Post invariant_loop decreases_loop) → TakenFits (c.before.before.args.k * (c.before.loop.i + 1)) c.before.loop.above
-fits c = next_fits c.before.before.requires c.before.loop.i c.before.loop.above c.loop-test.true
+fits : (c : In-loop-i) → TakenFits (c.args.k * (c.loop-i.i + 1)) c.loop-i.above
+fits c = next_fits c.requires c.loop-i.i c.loop-i.above c.loop-i-test.true
 
 pub overflow_mul-base : goal.overflow_mul-base
-overflow_mul-base c = omega (arith, fits c)
+overflow_mul-base c = omega (arith, fits (goal.at.overflow_mul-base c).In-loop-i)
 
 pub nonzero_rem-taken : goal.nonzero_rem-taken
-nonzero_rem-taken c = omega (arith, fits c)
+nonzero_rem-taken c = omega (arith, fits (goal.at.nonzero_rem-taken c).In-loop-i)
 
 pub overflow_cast-taken : goal.overflow_cast-taken
-overflow_cast-taken c = omega (arith, fits c)
+overflow_cast-taken c = omega (arith, fits (goal.at.overflow_cast-taken c).In-loop-i)
 
 pub nonzero_div-above : goal.nonzero_div-above
-nonzero_div-above c = omega (arith, fits c)
+nonzero_div-above c = omega (arith, fits (goal.at.nonzero_div-above c).In-loop-i)
 
 pub loop-i-preserved : goal.loop-i-preserved
 loop-i-preserved c = (

@@ -10,4 +10,4 @@ returns-in-Rank c = search rules
 
 pub returns-in-Unread : goal.returns-in-Unread
 unfolding verdict_of
-returns-in-Unread c = sym (ap verdict_of c.self-1.given.1)
+returns-in-Unread c = sym (ap verdict_of c.in-Unread.is)
