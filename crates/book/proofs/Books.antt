@@ -20,7 +20,7 @@ use Rattle.book.specs.declared.format.Stretch.{Stretch}
 use Rattle.book.specs.Format.{Bytes, Format, Bookable, WellFormed, bytes_of, number_in, most_entries, entry_place_lem, body_place, entry_bytes, body_bytes, joined, book_of}
 use Rattle.book.specs.Read.{entries_of, n_of, k_of, offset_of, count_of, expected, modules_of, settings_of, rank_of, book_verdict, asked_verdict, answers_of}
 use Rattle.book.proofs.Bytes.{bytes_long, number_back, slice_back}
-use Rattle.book.proofs.Slices.{take_slice, slice_split, at-slice, slice_row, slice_within, joined_ext, joined_slice}
+use Rattle.book.proofs.Slices.{take_slice, slice_split, slice_at, slice_row, slice_within, joined_ext, joined_slice}
 use Rattle.book.proofs.Formats.{Sound, IsBody}
 use Rattle.book.proofs.Checks.{Checked, EntryChecked, checked, checked_fine, book_fine, asked, asked_fine, entry_inside, body_inside, body_places_rise}
 

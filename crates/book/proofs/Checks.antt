@@ -49,7 +49,7 @@ module _ (v : ℕ → Verdict) where
   first_refused zero number place none l e = absurd (not-suc-le-zero l)
   first_refused {i} (suc m) number place none l e =
       by_lt i m (λ l'. rw (first_refused m number place none l' e, first))
-      (λ g. let same : m ≡ i = omega arith in rw (same, none, e, first, in_entry_lem))
+      (λ g. let same : m ≡ i = omega arith in rw (same, none, e, first, in_entry_lem) (ap (λ x. Refused number (suc x)) same))
 
   -- so a loop that meets its verdict w answers it, with its place, whatever comes later
   pub stops_in : {i m : ℕ} {w x : Verdict} {r : Bool} (later : Verdict) → first_of v i ≡ Fine → i < m → w ≡ v i → r ≡ refuses w → r ≡ true → x ≡ in_entry_lem i w →

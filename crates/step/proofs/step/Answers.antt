@@ -30,7 +30,8 @@ put-requires c = lowest_fits (goal.at.put-requires c).After-lowest_digit-s
 
 pub returns-then-n-x : goal.returns-then-n-x
 returns-then-n-x c =
-    closing _ _ _ _ c.lowest_digit-s.ensures c.place-x.ensures.0 c.requires.fine c.if-n-x.true c.put.ensures
+    let w = closing _ _ _ _ c.lowest_digit-s.ensures c.place-x.ensures.0 c.requires.fine c.if-n-x.true c.put.ensures in
+    record { flip_value = w.0; closed_value = w.1.0; counters_after = w.1.1.0; pointers_after = w.1.1.1 }
 
 pub place-counter-requires : goal.place-counter-requires
 place-counter-requires c = omega (arith, digit (goal.at.place-counter-requires c).Else-n-x)
@@ -50,7 +51,8 @@ put-requires-then-counter-k-2 c =
 
 pub returns-then-counter-k : goal.returns-then-counter-k
 returns-then-counter-k c =
-    gaining _ _ _ _ c.lowest_digit-s.ensures c.place-x.ensures.0 c.requires.fine c.if-n-x.false c.place-counter.ensures.0 c.if-counter-k.true c.put-then-counter-k-2.ensures c.put-then-counter-k.ensures
+    let w = gaining _ _ _ _ c.lowest_digit-s.ensures c.place-x.ensures.0 c.requires.fine c.if-n-x.false c.place-counter.ensures.0 c.if-counter-k.true c.put-then-counter-k-2.ensures c.put-then-counter-k.ensures in
+    record { flip_value = w.0; closed_value = w.1.0; counters_after = w.1.1.0; pointers_after = w.1.1.1 }
 
 pub fill-requires : goal.fill-requires
 fill-requires c =
@@ -59,4 +61,5 @@ fill-requires c =
 
 pub returns : goal.returns
 returns c =
-    filling _ _ _ _ c.lowest_digit-s.ensures c.place-x.ensures.0 c.requires.fine c.if-n-x.false c.place-counter.ensures.0 c.if-counter-k.false c.fill.ensures.counters_after c.fill.ensures.pointers_after
+    let w = filling _ _ _ _ c.lowest_digit-s.ensures c.place-x.ensures.0 c.requires.fine c.if-n-x.false c.place-counter.ensures.0 c.if-counter-k.false c.fill.ensures.counters_after c.fill.ensures.pointers_after in
+    record { flip_value = w.0; closed_value = w.1.0; counters_after = w.1.1.0; pointers_after = w.1.1.1 }

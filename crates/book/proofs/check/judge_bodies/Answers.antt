@@ -75,7 +75,7 @@ judge_body-verdict-requires c =
 judged : (c : After-judge_body-verdict) →
     c.judge_body-verdict.result ≡ body_verdict format_one c.args.book.now c.loop-i.i
 judged c =
-    body_judged _ _ c.loop-i.invariant.1 (n_is c.before.before.before) (k_is c.before.before.before) c.judge_body-verdict.ensures
+    body_judged _ _ c.loop-i.invariant.1 (n_read _ _ c.entry_place-entry.ensures) (k_read _ _ c.entry_place-entry.ensures) c.judge_body-verdict.ensures
 
 pub in_entry-requires : goal.in_entry-requires
 in_entry-requires c =

@@ -62,12 +62,6 @@ whole : (c : Else-book-entry_place) →
 unfolding entries_of
 whole c = omega (arith, c.entry_place.ensures, c.if-book-entry_place.false)
 
-uncut : {w later : Verdict} (c : Else-book-entry_place) →
-    let xs = c.args.book.now in
-    w ≡ later → w ≡ first (cut_verdict 2 xs) (first (head_verdict format_one xs) (first (cut_verdict (entry_place_lem (entries_of xs)) xs) later))
-unfolding cut_verdict
-uncut c rest = headed c.before.before (faultless 13 (le-ltb _ _ (whole c)) rest)
-
 asked : (c : Else-book-entry_place) → ContentsAsked c.args.book.now
 unfolding entries_of
 asked c = record { few = c.if-entries-gt-MOST_ENTRIES.false; uncut = whole c }
@@ -77,9 +71,11 @@ unfolding entries_of
 judge_contents-contents-requires c = (asked (goal.at.judge_contents-contents-requires c).Else-book-entry_place, refl)
 
 pub returns-then-refuses : goal.returns-then-refuses
-unfolding book_verdict entries_of
+unfolding book_verdict cut_verdict entries_of
 returns-then-refuses c =
-    uncut (goal.at.returns-then-refuses c).Else-book-entry_place (stops _ c.judge_contents-contents.ensures c.refuses.ensures c.if-refuses.true)
+    headed (goal.at.returns-then-refuses c).Else-entries-gt-MOST_ENTRIES
+    (faultless 13 (le-ltb _ _ (whole (goal.at.returns-then-refuses c).Else-book-entry_place))
+    (stops _ c.judge_contents-contents.ensures c.refuses.ensures c.if-refuses.true))
 
 pub judge_bodies-requires : goal.judge_bodies-requires
 unfolding entries_of
@@ -87,6 +83,8 @@ judge_bodies-requires c =
     (bodies_asked _ (asked (goal.at.judge_bodies-requires c).Else-book-entry_place) (was_fine c.judge_contents-contents.ensures c.refuses.ensures c.if-refuses.false), refl)
 
 pub returns : goal.returns
-unfolding book_verdict entries_of
+unfolding book_verdict cut_verdict entries_of
 returns c =
-    uncut (goal.at.returns c).Else-book-entry_place (goes_on c.judge_contents-contents.ensures c.refuses.ensures c.if-refuses.false c.judge_bodies.ensures)
+    headed (goal.at.returns c).Else-entries-gt-MOST_ENTRIES
+    (faultless 13 (le-ltb _ _ (whole (goal.at.returns c).Else-book-entry_place))
+    (goes_on c.judge_contents-contents.ensures c.refuses.ensures c.if-refuses.false c.judge_bodies.ensures))

@@ -66,8 +66,8 @@ number_in-offset-requires c =
 -- past the sizes
 sizes_passed : {w later : Verdict} (c : Else-refuses) →
     let a = c.args in
-    w ≡ later → w ≡ first (sizes_verdict (n_of a.book.now a.i) (k_of a.book.now a.i)) later
-sizes_passed c rest = goes_on (sized c.before.before) c.refuses.ensures c.if-refuses.false rest
+    c.judge-size.result ≡ sizes_verdict (n_of a.book.now a.i) (k_of a.book.now a.i) → w ≡ later → w ≡ first (sizes_verdict (n_of a.book.now a.i) (k_of a.book.now a.i)) later
+sizes_passed c is rest = goes_on is c.refuses.ensures c.if-refuses.false rest
 
 offset_is : (c : After-number_in-offset) →
     let a = c.args in c.number_in-offset.result ≡ offset_of a.book.now a.i
@@ -78,13 +78,14 @@ asked : (c : After-number_in-offset) →
 asked c = c.requires.2
 
 offset_right : (c : Else-offset-place) →
-    let a = c.args in offset_of a.book.now a.i ≡ expected format_one a.book.now a.i
-offset_right c = sym (offset_is c.before) ∙ c.if-offset-place.false ∙ asked c.before
+    let a = c.args in
+    c.number_in-offset.result ≡ offset_of a.book.now a.i → offset_of a.book.now a.i ≡ expected format_one a.book.now a.i
+offset_right c is = sym is ∙ c.if-offset-place.false ∙ c.requires.2
 
 pub returns-then-offset-place : goal.returns-then-offset-place
 unfolding entry_verdict
 returns-then-offset-place c =
-    sizes_passed (goal.at.returns-then-offset-place c).Else-refuses (faulty 15 _ (wrong_length _ _ (λ e. c.if-offset-place.true (offset_is (goal.at.returns-then-offset-place c).After-number_in-offset ∙ e ∙ sym (asked (goal.at.returns-then-offset-place c).After-number_in-offset)))))
+    sizes_passed (goal.at.returns-then-offset-place c).Else-refuses (sized (goal.at.returns-then-offset-place c).After-judge-size) (faulty 15 _ (wrong_length _ _ (λ e. c.if-offset-place.true (offset_is (goal.at.returns-then-offset-place c).After-number_in-offset ∙ e ∙ sym (asked (goal.at.returns-then-offset-place c).After-number_in-offset)))))
 
 pub overflow_add-entry-2 : goal.overflow_add-entry-2
 unfolding entry_place_lem
@@ -109,6 +110,6 @@ pub returns : goal.returns
 unfolding entry_verdict
 returns c =
     let there = c.entry_place-entry.ensures in
-    sizes_passed (goal.at.returns c).Else-refuses
-    (faultless 15 (right_length _ _ (offset_right (goal.at.returns c).Else-offset-place))
+    sizes_passed (goal.at.returns c).Else-refuses (sized (goal.at.returns c).After-judge-size)
+    (faultless 15 (right_length _ _ (offset_right (goal.at.returns c).Else-offset-place (offset_is (goal.at.returns c).After-number_in-offset)))
     (count_judged (n_read _ _ there) (k_read _ _ there) (count_is (goal.at.returns c).After-number_in) c.judge_count.ensures))

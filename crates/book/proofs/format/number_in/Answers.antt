@@ -17,7 +17,7 @@ overflow_mul-number c =
 byte_low : (c : In-loop-i) →
     at c.args.book.now (c.args.place + (c.loop-i.i - 1)) < 256
 byte_low c =
-    omega (arith, c.?shared-slice-known.given (c.args.place + (c.loop-i.i - 1)))
+    omega (arith, c.type_inv.book (c.args.place + (c.loop-i.i - 1)))
 
 pub overflow_cast-number : goal.overflow_cast-number
 overflow_cast-number c = omega (arith, byte_low (goal.at.overflow_cast-number c).In-loop-i)
