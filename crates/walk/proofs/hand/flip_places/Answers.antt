@@ -22,6 +22,6 @@ returns c =
     λ i. record {
       n = c.args.n;
       k = c.args.k;
-      modules = modules_flipped _ c.args.k _ _ c.requires.1 (length-take-le _ _ (search rules)) c.flip.ensures.0 i;
-      settings = settings_flipped _ _ _ _ c.requires.1 (length-take-le _ _ (search rules)) c.flip.ensures.1 i;
+      modules = modules_flipped _ c.args.k _ _ c.requires.1 (length-take-le _ _ (search rules)) c.flip.ensures.modules_after i;
+      settings = settings_flipped _ _ _ _ c.requires.1 (length-take-le _ _ (search rules)) c.flip.ensures.settings_after i;
     }
