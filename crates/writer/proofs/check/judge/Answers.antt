@@ -21,61 +21,55 @@ unfolding write_verdict
 returns-then-refuses c = stops _ c.judge_lists-lent.ensures c.refuses.ensures c.if-refuses.true
 
 -- what was lent
-lent : (c : Else-refuses) → Lists
+abbrev lent : (c : Else-refuses) → Lists
 lent c =
     let a = c.args in lists a.ns.now a.ks.now a.ranks.now a.counts.now
 
 -- past the lists' lengths
 lists_passed : {w later : Verdict} (c : Else-refuses) → w ≡ later → w ≡ first (lists_verdict (lent c)) later
-unfolding lent
 lists_passed c rest = goes_on c.judge_lists-lent.ensures c.refuses.ensures c.if-refuses.false rest
 
 pub returns-then-ns-lt1 : goal.returns-then-ns-lt1
-unfolding write_verdict few_verdict lent
+unfolding write_verdict few_verdict
 returns-then-ns-lt1 c = lists_passed (goal.at.returns-then-ns-lt1 c).Else-refuses (faulty 14 _ (below_range 1 most_entries _ c.if-ns-lt1.true))
 
 pub returns-then-ns-gt-MOST_ENTRIES : goal.returns-then-ns-gt-MOST_ENTRIES
-unfolding write_verdict few_verdict lent
+unfolding write_verdict few_verdict
 returns-then-ns-gt-MOST_ENTRIES c = lists_passed (goal.at.returns-then-ns-gt-MOST_ENTRIES c).Else-refuses (faulty 14 _ (above_range 1 most_entries _ c.if-ns-lt1.false c.if-ns-gt-MOST_ENTRIES.true))
 
 -- and past their number
-few_passed : {w later : Verdict} (c : Else-ns-gt-MOST_ENTRIES) → w ≡ later →
-    w ≡ first (lists_verdict (lent c.before.before)) (first (few_verdict (stretches_in (lent c.before.before))) later)
-unfolding few_verdict lent
-few_passed c rest =
-    lists_passed c.before.before (faultless 14 (in_range 1 most_entries _ c.if-ns-lt1.false c.if-ns-gt-MOST_ENTRIES.false) rest)
+few_passed : {w later : Verdict} (c : Else-ns-gt-MOST_ENTRIES) →
+    let a = c.args in w ≡ later → w ≡ first (few_verdict (stretches_in (lists a.ns.now a.ks.now a.ranks.now a.counts.now))) later
+unfolding few_verdict
+few_passed c rest = faultless 14 (in_range 1 most_entries _ c.if-ns-lt1.false c.if-ns-gt-MOST_ENTRIES.false) rest
 
 pub judge_stretches-stretches-requires : goal.judge_stretches-stretches-requires
-unfolding lent
 judge_stretches-stretches-requires c =
     one_length (lent (goal.at.judge_stretches-stretches-requires c).Else-refuses) (was_fine c.judge_lists-lent.ensures c.refuses.ensures c.if-refuses.false) c.if-ns-gt-MOST_ENTRIES.false
 
 pub returns-then-refuses-2 : goal.returns-then-refuses-2
-unfolding write_verdict lent
+unfolding write_verdict
 returns-then-refuses-2 c =
-    few_passed (goal.at.returns-then-refuses-2 c).Else-ns-gt-MOST_ENTRIES
-    (stops _ c.judge_stretches-stretches.ensures c.refuses-2.ensures c.if-refuses-2.true)
-
--- and past the stretches
-stretches_passed : {w later : Verdict} (c : Else-refuses-2) → w ≡ later →
-    let l = lent c.before.before.before.before.before in
-    w ≡ first (lists_verdict l) (first (few_verdict (stretches_in l)) (first (first_of (λ i. stretch_verdict (stretch_at_lem l i)) (stretches_in l)) later))
-unfolding lent
-stretches_passed c rest =
-    few_passed c.before.before.before (goes_on c.judge_stretches-stretches.ensures c.refuses-2.ensures c.if-refuses-2.false rest)
+    lists_passed (goal.at.returns-then-refuses-2 c).Else-refuses
+    (few_passed (goal.at.returns-then-refuses-2 c).Else-ns-gt-MOST_ENTRIES
+    (stops _ c.judge_stretches-stretches.ensures c.refuses-2.ensures c.if-refuses-2.true))
 
 -- the buffer
 buffer : (c : Else-refuses-2) → List ℕ
 buffer c = c.args.buffer.now
 
 pub returns-then-buffer-book_length : goal.returns-then-buffer-book_length
-unfolding write_verdict room_verdict lent buffer
+unfolding write_verdict room_verdict buffer
 returns-then-buffer-book_length c =
-    stretches_passed (goal.at.returns-then-buffer-book_length c).Else-refuses-2
-    (last_faulty 4 (room_short (lent (goal.at.returns-then-buffer-book_length c).Else-refuses) (buffer (goal.at.returns-then-buffer-book_length c).Else-refuses-2) c.book_length.ensures c.if-buffer-book_length.true))
+    lists_passed (goal.at.returns-then-buffer-book_length c).Else-refuses
+    (few_passed (goal.at.returns-then-buffer-book_length c).Else-ns-gt-MOST_ENTRIES
+    (goes_on c.judge_stretches-stretches.ensures c.refuses-2.ensures c.if-refuses-2.false
+    (last_faulty 4 (room_short (lent (goal.at.returns-then-buffer-book_length c).Else-refuses) (buffer (goal.at.returns-then-buffer-book_length c).Else-refuses-2) c.book_length.ensures c.if-buffer-book_length.true))))
 
 pub returns : goal.returns
-unfolding write_verdict room_verdict lent buffer
+unfolding write_verdict room_verdict buffer
 returns c =
-    stretches_passed (goal.at.returns c).Else-refuses-2
-    (last_faultless 4 (room_enough (lent (goal.at.returns c).Else-refuses) (buffer (goal.at.returns c).Else-refuses-2) c.book_length.ensures c.if-buffer-book_length.false))
+    lists_passed (goal.at.returns c).Else-refuses
+    (few_passed (goal.at.returns c).Else-ns-gt-MOST_ENTRIES
+    (goes_on c.judge_stretches-stretches.ensures c.refuses-2.ensures c.if-refuses-2.false
+    (last_faultless 4 (room_enough (lent (goal.at.returns c).Else-refuses) (buffer (goal.at.returns c).Else-refuses-2) c.book_length.ensures c.if-buffer-book_length.false))))

@@ -8,34 +8,31 @@ use borrow.Author.Rules.{rules}
 use Rattle.writer.proofs.write.put_bodies.Goals.{At-loop-i}
 use Rattle.writer.proofs.write.put_bodies.Goals as goal
 
--- what the loop began with
-abbrev begun : (c : At-loop-i) → tie.Start invariant_loop decreases_loop
-begun c = c.Start
-
+-- what was lent
 abbrev lent : (c : At-loop-i) → Lists
-lent c = let a = (begun c).args in lists a.ns.now a.ks.now a.ranks.now a.counts.now
+lent c = let a = c.args in lists a.ns.now a.ks.now a.ranks.now a.counts.now
 
 pub loop-i-init : goal.loop-i-init
 loop-i-init c = (search rules, joined_first _)
 
 pub stretch_at-body-requires : goal.stretch_at-body-requires
-stretch_at-body-requires c = ((begun (goal.at.stretch_at-body-requires c).At-loop-i).pre.0.one_length, c.loop-i-test.true)
+stretch_at-body-requires c = (c.requires.0.one_length, c.loop-i-test.true)
 
 pub put_body-end-requires : goal.put_body-end-requires
 put_body-end-requires c =
-    let pre = (begun (goal.at.put_body-end-requires c).At-loop-i).pre in
+    let pre = c.requires in
     let stretch = c.stretch_at-body.ensures in
     (body_room (lent (goal.at.put_body-end-requires c).At-loop-i) pre.1 pre.2 c.loop-i.i c.loop-i.invariant.1 c.loop-i-test.true stretch, (rw stretch (pre.0.bookable _ c.loop-i-test.true)))
 
 pub loop-i-preserved : goal.loop-i-preserved
 loop-i-preserved c =
-    let pre = (begun (goal.at.loop-i-preserved c).At-loop-i).pre in
+    let pre = c.requires in
     (omega (arith, c.loop-i-test.true), bodies_on (lent (goal.at.loop-i-preserved c).At-loop-i) pre.1 pre.2 c.loop-i.i c.loop-i.invariant.1 c.loop-i-test.true c.stretch_at-body.ensures c.put_body-end.ensures)
 
 pub shape_of-out : goal.shape_of-out
-shape_of-out c = let pre = (begun (goal.at.shape_of-out c).At-loop-i).pre in bodies_kept (lent (goal.at.shape_of-out c).At-loop-i) pre.1 pre.2 c.loop-i.i c.loop-i.invariant.1 c.loop-i.invariant.0
+shape_of-out c = let pre = c.requires in bodies_kept (lent (goal.at.shape_of-out c).At-loop-i) pre.1 pre.2 c.loop-i.i c.loop-i.invariant.1 c.loop-i.invariant.0
 
 pub returns : goal.returns
 returns c =
-    let all : c.loop-i.i ≡ length (begun (goal.at.returns c).At-loop-i).args.ns.now = omega (arith, c.loop-i.invariant.0, c.loop-i-test.false) in
+    let all : c.loop-i.i ≡ length c.args.ns.now = omega (arith, c.loop-i.invariant.0, c.loop-i-test.false) in
     joined_all _ all c.loop-i.invariant.1

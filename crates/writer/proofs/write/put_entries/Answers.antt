@@ -11,36 +11,32 @@ use Rattle.writer.proofs.write.put_entries.Goals.{At-loop-i}
 use Rattle.writer.proofs.write.put_entries.Goals.{In-loop-i}
 use Rattle.writer.proofs.write.put_entries.Goals as goal
 
--- what the loop began with
-abbrev begun : (c : At-loop-i) → tie.Start invariant_loop decreases_loop
-begun c = c.Start
-
+-- what was lent
 abbrev lent : (c : At-loop-i) → Lists
-lent c = let a = (begun c).args in lists a.ns.now a.ks.now a.ranks.now a.counts.now
+lent c = let a = c.args in lists a.ns.now a.ks.now a.ranks.now a.counts.now
 
 pub loop-i-init : goal.loop-i-init
 loop-i-init c =
     let ns = c.args.ns.now in (search rules, omega (arith, c.entry_place-contents.ensures, place_first (length ns) (at ns)), joined_first _)
 
 pub stretch_at-entry-requires : goal.stretch_at-entry-requires
-stretch_at-entry-requires c = ((begun (goal.at.stretch_at-entry-requires c).At-loop-i).pre.0.one_length, c.loop-i-test.true)
+stretch_at-entry-requires c = (c.requires.0.one_length, c.loop-i-test.true)
 
 -- the next body begins within the longest book
 fits : (c : In-loop-i) →
-    let ns = (begun c.At-loop-i).args.ns.now in body_place format_one (length ns) (at ns) c.loop-i.i ≤ 2178
+    let ns = c.args.ns.now in body_place format_one (length ns) (at ns) c.loop-i.i ≤ 2178
 unfolding entry_place_lem stretch_at_lem
 fits c =
-    let start = begun c.At-loop-i in
-    let ns = start.args.ns.now in
+    let ns = c.args.ns.now in
     let passed = c.loop-i.invariant.0 in
-    omega (arith, start.pre.0.one_length.few, passed, place_high (length ns) (at ns) 20 c.loop-i.i (λ h l. (start.pre.0.bookable h (omega (arith, l, passed))).sizes.n_high))
+    omega (arith, c.requires.0.one_length.few, passed, place_high (length ns) (at ns) 20 c.loop-i.i (λ h l. (c.requires.0.bookable h (omega (arith, l, passed))).sizes.n_high))
 
 pub overflow_add-contents : goal.overflow_add-contents
 overflow_add-contents c = omega (arith, c.loop-i.invariant.1, fits (goal.at.overflow_add-contents c).In-loop-i)
 
 pub put_entry-end-requires : goal.put_entry-end-requires
 put_entry-end-requires c =
-    let pre = (begun (goal.at.put_entry-end-requires c).At-loop-i).pre in
+    let pre = c.requires in
     (entry_room (lent (goal.at.put_entry-end-requires c).At-loop-i) pre.1 c.loop-i.i c.loop-i.invariant.2 c.loop-i-test.true, (rw c.stretch_at-entry.ensures (pre.0.bookable _ c.loop-i-test.true)))
 
 pub overflow_cast-bodies : goal.overflow_cast-bodies
@@ -52,17 +48,16 @@ overflow_add-bodies c = omega (arith, c.loop-i.invariant.1, fits (goal.at.overfl
 pub loop-i-preserved : goal.loop-i-preserved
 loop-i-preserved c =
     let loop = c.loop-i in
-    let start = begun (goal.at.loop-i-preserved c).At-loop-i in
-    let ns = start.args.ns.now in (
+    let ns = c.args.ns.now in (
       omega (arith, c.loop-i-test.true),
       omega (arith, loop.invariant.1, place_next (length ns) (at ns) loop.i),
-      entries_on (lent (goal.at.loop-i-preserved c).At-loop-i) start.pre.1 loop.i loop.invariant.2 c.loop-i-test.true loop.invariant.1 c.stretch_at-entry.ensures c.put_entry-end.ensures,
+      entries_on (lent (goal.at.loop-i-preserved c).At-loop-i) c.requires.1 loop.i loop.invariant.2 c.loop-i-test.true loop.invariant.1 c.stretch_at-entry.ensures c.put_entry-end.ensures,
     )
 
 pub shape_of-out : goal.shape_of-out
-shape_of-out c = entries_kept (lent (goal.at.shape_of-out c).At-loop-i) (begun (goal.at.shape_of-out c).At-loop-i).pre.1 c.loop-i.i c.loop-i.invariant.2 c.loop-i.invariant.0
+shape_of-out c = entries_kept (lent (goal.at.shape_of-out c).At-loop-i) c.requires.1 c.loop-i.i c.loop-i.invariant.2 c.loop-i.invariant.0
 
 pub returns : goal.returns
 returns c =
-    let all : c.loop-i.i ≡ length (begun (goal.at.returns c).At-loop-i).args.ns.now = omega (arith, c.loop-i.invariant.0, c.loop-i-test.false) in
+    let all : c.loop-i.i ≡ length c.args.ns.now = omega (arith, c.loop-i.invariant.0, c.loop-i-test.false) in
     joined_all _ all c.loop-i.invariant.2

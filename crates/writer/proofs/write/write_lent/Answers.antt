@@ -7,19 +7,15 @@ use Rattle.sizes.proofs.Refusals.{was_fine}
 use Rattle.sizes.proofs.Outcomes.{refused_does, done_does}
 use Rattle.writer.specs.Write.{Lists, lists}
 use Rattle.writer.proofs.Checks.{Accepted, accepted, does_write}
-use Rattle.writer.proofs.write.write_lent.Goals.{Start}
 use Rattle.writer.proofs.write.write_lent.Goals.{Else-refuses}
 use Rattle.writer.proofs.write.write_lent.Goals as goal
 
--- what was lent
-abbrev lent : (c : Start) → Lists
-lent c = lists c.args.ns.now c.args.ks.now c.args.ranks.now c.args.counts.now
-
 pub returns-then-refuses : goal.returns-then-refuses
 returns-then-refuses c =
-    does_write (lent (goal.at.returns-then-refuses c).Start) c.args.book.now (refused_does _ _ [] _ [] c.judge-verdict.ensures c.refuses.ensures c.if-refuses.true refl refl)
+    let w = does_write (lists c.args.ns.now c.args.ks.now c.args.ranks.now c.args.counts.now) c.args.book.now (refused_does _ _ [] _ [] c.judge-verdict.ensures c.refuses.ensures c.if-refuses.true refl refl) in
+    record { value = w.0; book_after = w.1 }
 
-asked : (c : Else-refuses) → Accepted (lent c.Start) c.args.book.now
+asked : (c : Else-refuses) → Accepted (lists c.args.ns.now c.args.ks.now c.args.ranks.now c.args.counts.now) c.args.book.now
 asked c = accepted _ _ (was_fine c.judge-verdict.ensures c.refuses.ensures c.if-refuses.false)
 
 pub put_book-length-requires : goal.put_book-length-requires
@@ -32,4 +28,5 @@ shape_of-book c =
 pub returns : goal.returns
 returns c =
     let whole = put_front c.put_book-length.ensures in
-    does_write (lent (goal.at.returns c).Start) c.args.book.now (done_does _ _ [] _ [] c.judge-verdict.ensures c.refuses.ensures c.if-refuses.false whole.0 whole.1 refl)
+    let w = does_write (lists c.args.ns.now c.args.ks.now c.args.ranks.now c.args.counts.now) c.args.book.now (done_does _ _ [] _ [] c.judge-verdict.ensures c.refuses.ensures c.if-refuses.false whole.0 whole.1 refl) in
+    record { value = w.0; book_after = w.1 }

@@ -1,0 +1,21 @@
+-- `entry::count` meets its contract: the number is in the last 8 bytes of the entry. Assumes nothing.
+use native.Mathlib.Omega.{arith}
+use Rattle.book.specs.Format.{entry_place_lem}
+use Rattle.book.proofs.Checks.{entry_asked, count_read}
+use Rattle.entry.proofs.count.Goals as goal
+
+pub overflow_sub-entry : goal.overflow_sub-entry
+overflow_sub-entry c = (entry_asked _ c.requires).low
+
+pub entry_place-requires : goal.entry_place-requires
+entry_place-requires c = omega (arith, (entry_asked _ c.requires).few)
+
+pub overflow_add-entry_place : goal.overflow_add-entry_place
+unfolding entry_place_lem
+overflow_add-entry_place c = omega (arith, c.entry_place.ensures, (entry_asked _ c.requires).few)
+
+pub number_in-requires : goal.number_in-requires
+number_in-requires c = omega (arith, c.entry_place.ensures, (entry_asked _ c.requires).inside_book)
+
+pub returns : goal.returns
+returns c = count_read _ _ c.entry_place.ensures c.number_in.ensures
