@@ -1,5 +1,5 @@
 // What C calls: plain numbers and lent byte buffers in, one number back. Each function here asks a floor
-// below and packs its answer; none has a `requires`.
+// below and packs its answer; none has a `requires`. `limpet_c` exports them.
 #![tactic(auto)]
 
 mod answer;

@@ -7,8 +7,7 @@ ghost use Rattle.limpet.specs.Calls.{ReadReturns, verdict_shown};
 
 use crate::answer::{pack, pack_told};
 
-#[unsafe(no_mangle)]
-pub extern "C" fn limpet_board_write(
+pub fn limpet_board_write(
     n: usize,
     k: usize,
     rank: u64,
@@ -21,13 +20,7 @@ pub extern "C" fn limpet_board_write(
 }
 
 // A step is a few comparisons long, and is the faster for packing its answer on each branch.
-#[unsafe(no_mangle)]
-pub extern "C" fn limpet_board_step(
-    n: usize,
-    k: usize,
-    counters: &mut [u8],
-    pointers: &mut [u8],
-) -> u64
+pub fn limpet_board_step(n: usize, k: usize, counters: &mut [u8], pointers: &mut [u8]) -> u64
     ensures { Leaves (step_leaves n k counters.old pointers.old) result counters.new pointers.new }
 {
     let verdict = step::judge(n, k, counters, pointers);
@@ -38,20 +31,13 @@ pub extern "C" fn limpet_board_step(
     pack(verdict, step::number_of(stepped))
 }
 
-#[unsafe(no_mangle)]
-pub extern "C" fn limpet_board_read(n: usize, k: usize, counters: &[u8], pointers: &[u8]) -> u64
+pub fn limpet_board_read(n: usize, k: usize, counters: &[u8], pointers: &[u8]) -> u64
     ensures { ReadReturns verdict_shown n k counters.now pointers.now result }
 {
     pack(board::read::read(n, k, counters, pointers).verdict(), 0)
 }
 
-#[unsafe(no_mangle)]
-pub extern "C" fn limpet_board_read_rank(
-    n: usize,
-    k: usize,
-    counters: &[u8],
-    pointers: &[u8],
-) -> u64
+pub fn limpet_board_read_rank(n: usize, k: usize, counters: &[u8], pointers: &[u8]) -> u64
     ensures { ReadReturns rank_read n k counters.now pointers.now result }
 {
     board::read::read(n, k, counters, pointers).rank()

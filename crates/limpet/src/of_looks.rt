@@ -5,8 +5,7 @@ ghost use Rattle.limpet.specs.Calls.{look_returns};
 
 use crate::answer::{pack, pack_told};
 
-#[unsafe(no_mangle)]
-pub extern "C" fn limpet_look(n: usize, k: usize, modules: &[u8], settings: &[u8]) -> u64
+pub fn limpet_look(n: usize, k: usize, modules: &[u8], settings: &[u8]) -> u64
     ensures { Returns (look_returns n k modules.now settings.now) result }
 {
     let verdict = arrangement::check::judge(n, k, modules, settings);
@@ -16,8 +15,7 @@ pub extern "C" fn limpet_look(n: usize, k: usize, modules: &[u8], settings: &[u8
     pack(verdict, look::look(n, k, modules, settings) as u64)
 }
 
-#[unsafe(no_mangle)]
-pub extern "C" fn limpet_next(n: usize, k: usize, modules: &mut [u8], settings: &mut [u8]) -> u64
+pub fn limpet_next(n: usize, k: usize, modules: &mut [u8], settings: &mut [u8]) -> u64
     ensures { Leaves (next_leaves n k modules.old settings.old) result modules.new settings.new }
 {
     pack_told(look::next_lent(n, k, modules, settings))

@@ -6,15 +6,13 @@ ghost use Rattle.unrank.specs.Unrank.{unrank_leaves};
 use crate::answer::pack_told;
 use crate::of_arrangements::limpet_check;
 
-#[unsafe(no_mangle)]
-pub extern "C" fn limpet_rank(n: usize, k: usize, modules: &[u8], settings: &[u8]) -> u64
+pub fn limpet_rank(n: usize, k: usize, modules: &[u8], settings: &[u8]) -> u64
     ensures { Returns (check_returns n k modules.now settings.now) result }
 {
     limpet_check(n, k, modules, settings)
 }
 
-#[unsafe(no_mangle)]
-pub extern "C" fn limpet_rank_value(n: usize, k: usize, modules: &[u8], settings: &[u8]) -> u64
+pub fn limpet_rank_value(n: usize, k: usize, modules: &[u8], settings: &[u8]) -> u64
     ensures { Returns (rank_value_returns n k modules.now settings.now) result }
 {
     if arrangement::check::judge(n, k, modules, settings).refuses() {
@@ -23,14 +21,7 @@ pub extern "C" fn limpet_rank_value(n: usize, k: usize, modules: &[u8], settings
     rank::rank(n, k, modules, settings)
 }
 
-#[unsafe(no_mangle)]
-pub extern "C" fn limpet_unrank(
-    n: usize,
-    k: usize,
-    rank: u64,
-    modules: &mut [u8],
-    settings: &mut [u8],
-) -> u64
+pub fn limpet_unrank(n: usize, k: usize, rank: u64, modules: &mut [u8], settings: &mut [u8]) -> u64
     ensures { Leaves (unrank_leaves n k rank modules.old settings.old) result modules.new settings.new }
 {
     pack_told(unrank::write_lent(n, k, rank, modules, settings))

@@ -4,15 +4,13 @@ ghost use Rattle.limpet.specs.Calls.{round_returns, total_returns};
 
 use crate::answer::pack;
 
-#[unsafe(no_mangle)]
-pub extern "C" fn limpet_round(n: usize, k: usize) -> u64
+pub fn limpet_round(n: usize, k: usize) -> u64
     ensures { Returns (round_returns n k) result }
 {
     pack(sizes::judge(n, k), 0)
 }
 
-#[unsafe(no_mangle)]
-pub extern "C" fn limpet_round_total(n: usize, k: usize) -> u64
+pub fn limpet_round_total(n: usize, k: usize) -> u64
     ensures { Returns (total_returns n k) result }
 {
     if sizes::judge(n, k).refuses() {

@@ -4,8 +4,7 @@ ghost use Rattle.limpet.specs.Calls.{pair_returns};
 
 use crate::answer::pack;
 
-#[unsafe(no_mangle)]
-pub extern "C" fn limpet_pair_count(
+pub fn limpet_pair_count(
     n: usize,
     k: usize,
     rank: u64,

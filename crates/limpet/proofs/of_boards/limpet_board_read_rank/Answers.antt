@@ -1,0 +1,5 @@
+-- `limpet_board_read_rank` keeps its promise: it answers the rank of a reading. Assumes nothing.
+use Rattle.limpet.proofs.of_boards.limpet_board_read_rank.Goals as goal
+
+pub returns : goal.returns
+returns c = record { reading = c.read.result; reads = c.read.ensures; returned_is = c.rank.ensures }
