@@ -5,8 +5,10 @@ use mathlib.Core.List.{List, [], ◌∷◌, ◌++◌, append_assoc}
 use Prim.Native.Nat.{ℕ, zero, suc, ◌+◌, ◌-◌, ◌*◌, ◌/◌, ◌%◌, ◌≤◌, ◌<◌}
 use native.Mathlib.Numerals.{add-one}
 use native.Mathlib.Omega.{arith}
-use lib.ListN.{length, set, length-append, length-set}
+use lib.ListN.{length, get_or, set, length-append, length-set}
 use lib.Seq.{paste}
+use mir.Val.{Fits}
+use mir.Syntax.{w8}
 use Rattle.rows.specs.Row.{at}
 use Rattle.rows.specs.Put.{Put}
 use Rattle.rows.proofs.Puts.{put_length, put_both, byte_first, put_one, put_none}
@@ -53,6 +55,10 @@ spelled {from = from} {ys = ys} {rest} {i} {d} so h e r_is =
     }
 
 -- ---- lengths
+
+-- a row of bytes
+pub bytes_fit : (xs : List ℕ) → ((i : ℕ) → Fits w8 (get_or xs i 0)) → (i : ℕ) → at xs i ≤ 255
+bytes_fit xs fits i = omega (arith, fits i)
 
 pub ended_long : (x end : ℕ) → length (ended x end) ≡ length (decimal x) + 1
 unfolding ended

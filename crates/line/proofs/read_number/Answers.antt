@@ -1,4 +1,3 @@
-use Prim.Native.Nat.{◌-◌}
 use mathlib.Core.Path.{◌≡◌, sym, ◌∙◌}
 use mathlib.Core.Bool.{true}
 use native.Mathlib.Omega.{arith}
@@ -38,7 +37,7 @@ digit : (c : Else-not-goes_on) →
 digit c = goes_digit _ _ (more c)
 
 pub overflow_mul-value : goal.overflow_mul-value
-overflow_mul-value c = omega (arith, (digit (goal.at.overflow_mul-value c).Else-not-goes_on).ranges)
+overflow_mul-value c = omega (arith, (digit (goal.at.overflow_mul-value c).Else-not-goes_on).fits)
 
 pub overflow_sub-value-in-loop-i : goal.overflow_sub-value-in-loop-i
 overflow_sub-value-in-loop-i c = omega (arith, (digit (goal.at.overflow_sub-value-in-loop-i c).Else-not-goes_on).low)
@@ -47,7 +46,7 @@ pub overflow_cast-value-in-loop-i : goal.overflow_cast-value-in-loop-i
 overflow_cast-value-in-loop-i c = omega (arith, (digit (goal.at.overflow_cast-value-in-loop-i c).Else-not-goes_on).high)
 
 pub overflow_add-value : goal.overflow_add-value
-overflow_add-value c = omega (arith, (digit (goal.at.overflow_add-value c).Else-not-goes_on).ranges)
+overflow_add-value c = omega (arith, (digit (goal.at.overflow_add-value c).Else-not-goes_on).fits)
 
 pub loop-i-preserved : goal.loop-i-preserved
 loop-i-preserved c = reading_on c.loop-i.invariant c.loop-i-test.true (more (goal.at.loop-i-preserved c).Else-not-goes_on)
