@@ -10,7 +10,7 @@ use native.Mathlib.Omega.{arith}
 use lib.ListN.{length, set, length-set}
 use lib.Seq.{get_or-set_same, get_or-set_other, ext_get_or}
 use borrow.Author.Tests.{eq-eqb, ne_eqb, lt-leb}
-use Rattle.rows.specs.Row.{at, row}
+use Rattle.rows.specs.Row.{row}
 use Rattle.rows.proofs.Cases.{by_eq, by_lt, opposite, in_range}
 use Rattle.rows.proofs.Rows.{length_row, at_row, row_ext, set_row}
 use Rattle.sizes.specs.declared.Verdict.TheVariants.{Fine}

@@ -14,7 +14,7 @@ use Rattle.rows.proofs.Cases.{by_test}
 use Rattle.sizes.specs.Sizes.{weight}
 use Rattle.sizes.proofs.Weights.{weight_pos}
 use Rattle.flip.specs.Flip.{raised, source}
-use Rattle.order.specs.Rank.{rank, unrank_modules, unrank_settings}
+use Rattle.order.specs.Rank.{unrank_modules, unrank_settings}
 use Rattle.order.specs.Digits.{flip_out, next_rank}
 use Rattle.order.proofs.Steps.{flip_high, next_module, next_setting_lem}
 use Rattle.board.specs.Board.{IsBoard}

@@ -1,6 +1,6 @@
 -- What the check of four lists and a buffer says where it is Fine: the lists are of one length, each stretch may stand in a book, and
 -- there is room for the book. And where all that holds, nothing is refused. Assumes nothing.
-use Prim.Native.Nat.{ℕ, ◌+◌, ◌*◌, ◌/◌, ◌%◌, ◌≤◌}
+use Prim.Native.Nat.{ℕ, ◌*◌, ◌/◌, ◌%◌, ◌≤◌}
 use mathlib.Core.Path.{◌≡◌, sym}
 use mathlib.Core.List.{List, [], ◌++◌}
 use native.Mathlib.Omega.{arith}

@@ -2,7 +2,6 @@
 -- alone. Assumes nothing.
 use mathlib.Core.Path.{sym, ◌∙◌}
 use Rattle.arrangement.proofs.Validity.{valid_ext}
-use Rattle.order.specs.Rank.{rank}
 use Rattle.order.proofs.Ranks.{rank_ext}
 use Rattle.book.specs.Read.{rank_of}
 use Rattle.book.proofs.Checks.{entry_asked, lent_length, written_long, written_taken, written_at}

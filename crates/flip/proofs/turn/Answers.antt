@@ -1,7 +1,5 @@
-use Prim.Native.Nat.{◌-◌}
 use mathlib.Core.Path.{◌≡◌, sym, ◌∙◌}
 use native.Mathlib.Omega.{arith}
-use Rattle.rows.specs.Row.{front}
 use Rattle.rows.proofs.Rows.{begun, stored}
 use Rattle.flip.proofs.Flips.{module_front, setting_front}
 use borrow.Author.Rules.{rules}

@@ -1,7 +1,6 @@
 use Prim.Native.Nat.{◌+◌, ◌-◌}
 use mathlib.Core.Path.{◌≡◌, refl, sym}
 use native.Mathlib.Omega.{arith}
-use Rattle.rows.specs.Row.{at}
 use Rattle.look.proofs.Looks.{looking_first, stops_by_setting, stops_by_module, looking_on, look_all}
 use Rattle.look.proofs.look.Goals as goal
 

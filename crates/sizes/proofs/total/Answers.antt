@@ -1,8 +1,6 @@
-use Prim.Native.Nat.{◌-◌}
 use mathlib.Core.Path.{◌≡◌, sym, ◌∙◌}
 use native.Mathlib.Omega.{arith}
 use borrow.Author.Rules.{rules}
-use Rattle.sizes.specs.Sizes.{weight}
 use Rattle.sizes.proofs.Weights.{weight_zero, one_more, factor_small, product_fits}
 use Rattle.sizes.proofs.total.Goals as goal
 

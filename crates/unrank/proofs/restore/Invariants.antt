@@ -2,9 +2,7 @@
 -- were. The measure is the number of places left. Assumes nothing.
 use Prim.Native.Nat.{suc, ◌-◌, ◌≤◌}
 use mathlib.Core.Path.{◌≡◌}
-use lib.ListN.{set}
 use Rattle.rows.specs.Row.{at, front}
-use Rattle.rows.proofs.Rows.{stored}
 use Rattle.rows.specs.Copy.{wide}
 use Rattle.order.specs.Rank.{restored_module, restored_setting}
 use Rattle.unrank.proofs.restore.Given as goal

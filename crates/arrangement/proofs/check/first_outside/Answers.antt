@@ -1,9 +1,7 @@
-use Prim.Native.Nat.{◌-◌}
 use mathlib.Core.Path.{◌≡◌, sym}
 use native.Mathlib.Omega.{arith}
 use borrow.Author.Rules.{rules}
 use lib.ListN.{length}
-use Rattle.rows.specs.Row.{at}
 use Rattle.rows.proofs.Cases.{below_range, above_range, in_range}
 use Rattle.rows.proofs.Searches.{none_yet, passed, found}
 use Rattle.arrangement.proofs.check.first_outside.Goals as goal

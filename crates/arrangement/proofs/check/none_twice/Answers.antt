@@ -1,8 +1,8 @@
-use Prim.Native.Nat.{◌+◌, ◌-◌, ◌<◌}
+use Prim.Native.Nat.{◌+◌, ◌<◌}
 use mathlib.Core.Path.{◌≡◌, ◌∙◌, ap}
 use native.Mathlib.Omega.{arith}
 use lib.ListN.{length, set}
-use Rattle.rows.specs.Row.{at, row}
+use Rattle.rows.specs.Row.{at}
 use Rattle.rows.proofs.Rows.{at_row}
 use Rattle.rows.specs.Copy.{wide}
 use Rattle.arrangement.proofs.Marks.{mark, unmarked, marked, Tally, tally_begun, tally_on, tally_told}

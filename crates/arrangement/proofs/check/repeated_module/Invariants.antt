@@ -7,7 +7,6 @@ use lib.Dec.{eqb}
 use lib.ListN.{length}
 use Rattle.rows.specs.Row.{at}
 use Rattle.rows.specs.Search.{lowest}
-use Rattle.rows.proofs.Searches.{found}
 use Rattle.arrangement.specs.Check.{repeated}
 use Rattle.arrangement.proofs.check.repeated_module.Given as goal
 

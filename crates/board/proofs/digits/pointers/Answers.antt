@@ -1,4 +1,4 @@
-use Prim.Native.Nat.{suc, ◌-◌}
+use Prim.Native.Nat.{suc}
 use mathlib.Core.Path.{◌≡◌, ◌∙◌}
 use native.Mathlib.Omega.{arith}
 use Rattle.board.proofs.Writing.{pointing_first, pointing_on}

@@ -1,4 +1,3 @@
-use Prim.Native.Nat.{◌-◌}
 use native.Mathlib.Omega.{arith}
 use Rattle.board.proofs.Writing.{running_first, run_stopped, running_on, run_reached}
 use Rattle.board.proofs.digits.run_end.Goals as goal

@@ -1,11 +1,8 @@
-use Prim.Native.Nat.{ℕ, ◌+◌, ◌-◌}
+use Prim.Native.Nat.{ℕ, ◌+◌}
 use mathlib.Core.Path.{◌≡◌, sym}
-use mathlib.Core.Bool.{not}
 use mathlib.Core.Logic.{◌≢◌}
 use native.Mathlib.Omega.{arith}
-use lib.Dec.{eqb}
 use borrow.Author.Tests.{eq-eqb, ne_eqb}
-use Rattle.rows.specs.Row.{at}
 use Rattle.rows.proofs.Searches.{none_yet, passed, found}
 use Rattle.arrangement.proofs.Checks.{wrong_length, right_length}
 use borrow.Author.Rules.{rules}

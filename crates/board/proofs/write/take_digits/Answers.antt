@@ -1,8 +1,7 @@
-use Prim.Native.Nat.{◌+◌, ◌-◌, ◌*◌}
+use Prim.Native.Nat.{◌+◌, ◌*◌}
 use mathlib.Core.Path.{◌≡◌, ◌∙◌}
 use native.Mathlib.Omega.{arith}
 use Rattle.rows.proofs.Rows.{begun, stored}
-use Rattle.order.specs.Digits.{digit}
 use Rattle.board.proofs.Writing.{none_taken, digit_taken, above_taken, TakenFits, next_fits}
 use borrow.Author.Rules.{rules}
 use Rattle.board.proofs.write.take_digits.Goals.{In-loop-i}

@@ -2,7 +2,6 @@
 -- The measure is the number of entries left. Assumes nothing.
 use Prim.Native.Nat.{◌-◌, ◌≤◌}
 use mathlib.Core.Path.{◌≡◌}
-use Rattle.rows.specs.Row.{at}
 use Rattle.sizes.specs.declared.Verdict.TheVariants.{Fine}
 use Rattle.book.specs.Format.{format_one}
 use Rattle.book.specs.Read.{expected, first_of, body_verdict}

@@ -3,7 +3,6 @@
 use Prim.Native.Nat.{◌-◌, ◌≤◌}
 use mathlib.Core.Path.{◌≡◌}
 use Rattle.sizes.specs.declared.Verdict.TheVariants.{Fine}
-use Rattle.sizes.specs.Refusal.{first}
 use Rattle.book.specs.Format.{format_one}
 use Rattle.book.specs.Read.{expected, first_of, entry_verdict}
 use Rattle.book.proofs.check.judge_contents.Given as goal

@@ -1,6 +1,5 @@
 -- `book::format::number_in` meets its contract. The loop's invariant: the bytes from place + i on have been read. The measure is i.
 -- Assumes nothing.
-use Prim.Native.Nat.{◌-◌}
 use Rattle.book.proofs.Bytes.{Reading}
 use Rattle.book.proofs.format.number_in.Given as goal
 

@@ -1,8 +1,6 @@
-use Prim.Native.Nat.{◌-◌}
 use mathlib.Core.Path.{◌≡◌, refl}
 use native.Mathlib.Omega.{arith}
 use lib.ListN.{length}
-use Rattle.rows.specs.Row.{at}
 use Rattle.rows.proofs.Rows.{begun, stored, same_length as same-length-of, rewritten}
 use Rattle.book.specs.Format.{format_one}
 use borrow.Author.Rules.{rules}

@@ -1,8 +1,7 @@
-use Prim.Native.Nat.{◌-◌}
 use mathlib.Core.Path.{◌≡◌, ◌∙◌}
 use native.Mathlib.Omega.{arith}
 use lib.ListN.{length}
-use lib.Seq.{paste, paste-zero}
+use lib.Seq.{paste-zero}
 use Rattle.rows.proofs.Puts.{text_long, text_turn}
 use borrow.Author.Rules.{rules}
 use Rattle.rows.proofs.put.put_text.Goals as goal

@@ -1,7 +1,6 @@
 -- `stretch::pair::count_by` meets its contract. The loop's invariant: i arrangements are counted, and the board and the seats are
 -- those of the next one. The measure is t less i. Assumes nothing.
 use Prim.Native.Nat.{◌-◌}
-use mathlib.Core.Bool.{cond}
 use Rattle.stretch.proofs.Counts.{Counted}
 use Rattle.stretch.proofs.pair.count_by.Given as goal
 

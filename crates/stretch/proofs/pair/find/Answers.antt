@@ -1,4 +1,3 @@
-use Prim.Native.Nat.{◌-◌}
 use native.Mathlib.Omega.{arith}
 use Rattle.stretch.proofs.Seats.{unseen_first, unseen_on, seen, nowhere}
 use Rattle.stretch.proofs.pair.find.Goals as goal

@@ -2,7 +2,7 @@
 -- number of slots left. Assumes nothing.
 use Prim.Native.Nat.{◌-◌}
 use Rattle.rows.specs.Row.{at}
-use Rattle.stretch.proofs.Seats.{Unseen, seen}
+use Rattle.stretch.proofs.Seats.{Unseen}
 use Rattle.stretch.proofs.pair.find.Given as goal
 
 abbrev pub invariant-loop-i : goal.invariant-loop-i

@@ -7,8 +7,7 @@ use Rattle.sizes.specs.declared.Verdict.{Verdict}
 use Rattle.sizes.specs.Refusal.{first}
 use Rattle.sizes.proofs.Refusals.{stops, goes_on, was_fine, faulty, faultless, last_faulty, last_faultless}
 use Rattle.book.specs.Format.{most_entries}
-use Rattle.book.specs.Read.{first_of}
-use Rattle.writer.specs.Write.{Lists, lists, stretches_in, stretch_at_lem, lists_verdict, few_verdict, stretch_verdict, room_verdict, write_verdict}
+use Rattle.writer.specs.Write.{Lists, lists, stretches_in, lists_verdict, few_verdict, room_verdict, write_verdict}
 use Rattle.writer.proofs.Checks.{one_length}
 use Rattle.writer.proofs.Pieces.{room_short, room_enough}
 use Rattle.writer.proofs.check.judge.Goals.{Else-refuses}

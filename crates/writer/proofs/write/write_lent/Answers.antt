@@ -5,7 +5,7 @@ use native.Mathlib.Omega.{arith}
 use Rattle.rows.proofs.Puts.{put_length, put_front}
 use Rattle.sizes.proofs.Refusals.{was_fine}
 use Rattle.sizes.proofs.Outcomes.{refused_does, done_does}
-use Rattle.writer.specs.Write.{Lists, lists}
+use Rattle.writer.specs.Write.{lists}
 use Rattle.writer.proofs.Checks.{Accepted, accepted, does_write}
 use Rattle.writer.proofs.write.write_lent.Goals.{Else-refuses}
 use Rattle.writer.proofs.write.write_lent.Goals as goal
