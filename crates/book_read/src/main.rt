@@ -11,13 +11,15 @@ ghost use Rattle.book.specs.Read.{book_verdict, asked_verdict};
 ghost use Rattle.print.specs.Prints.{Prints};
 ghost use Rattle.book_read.specs.Lines.{line_of, lines_of, lines_most};
 
-use libc::STDIN_FILENO;
 use print::Printed;
 use sizes::{MOST_SLOTS, Verdict};
 use text::write;
 
 // A byte more than the longest book: more is not looked at, since it is refused alike.
 const LONGEST: usize = 2179;
+
+// Room for the lines of any book.
+const BUFFER: usize = 65536;
 
 // Puts the line of an entry.
 fn put_line(out: &mut [u8], from: usize, book: &[u8], entry: usize) -> usize
@@ -68,10 +70,10 @@ fn answer(book: &[u8], out: &mut [u8]) -> Printed
     }
 }
 
-fn main() {
+fn main(rt: HostRuntime) {
     let mut input = [0u8; LONGEST];
-    let mut out = io::large_buffer();
-    let count = io::read_full(STDIN_FILENO, &mut input);
+    let mut out = [0u8; BUFFER];
+    let count = streams::read_full(&mut rt.stdin(), &mut input);
     let printed = answer(&input[..count], &mut out);
-    print::print(printed, &out);
+    print::print(printed, &out, &mut rt.stdout(), &mut rt.stderr());
 }

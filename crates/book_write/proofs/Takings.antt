@@ -8,7 +8,6 @@ use native.Mathlib.Numerals.{add-one}
 use native.Mathlib.Omega.{arith}
 use lib.ListN.{length, take, drop, set, length-append, length-set, length-drop, drop_of_length-le}
 use lib.Seq.{take-append-le, take-take, length-take-le, take-paste, take-length, drop_at, drop-drop, get_or-set_same, get_or-set_other}
-use Rattle.rows.specs.Row.{at}
 use Rattle.rows.specs.Put.{Put}
 use Rattle.rows.proofs.Puts.{put_length}
 use Rattle.rows.proofs.Cases.{by_last}

@@ -9,7 +9,6 @@ ghost use Rattle.print.specs.Prints.{Prints};
 ghost use Rattle.writer.specs.Write.{book_lent, write_verdict};
 ghost use Rattle.book_write.specs.Lines.{in_byte_lem, most_lines, listed, Takes, Answers};
 
-use libc::STDIN_FILENO;
 use line::Line;
 use print::Printed;
 use sizes::Verdict;
@@ -23,6 +22,9 @@ const WORDS: usize = 520;
 
 // A byte more than so many lines of four numbers of 20 digits.
 const LONGEST: usize = 5461;
+
+// Room for the longest book.
+const BUFFER: usize = 4096;
 
 // What is made of the input: stretches, so many, or a line that can't be read, by its number.
 #[derive(Clone, Copy)]
@@ -117,10 +119,10 @@ fn answer(input: &[u8], out: &mut [u8]) -> Printed
     }
 }
 
-fn main() {
+fn main(rt: HostRuntime) {
     let mut input = [0u8; LONGEST];
-    let mut out = io::buffer();
-    let count = io::read_full(STDIN_FILENO, &mut input);
+    let mut out = [0u8; BUFFER];
+    let count = streams::read_full(&mut rt.stdin(), &mut input);
     let printed = answer(&input[..count], &mut out);
-    print::print(printed, &out);
+    print::print(printed, &out, &mut rt.stdout(), &mut rt.stderr());
 }

@@ -8,9 +8,9 @@ ghost use Rattle.rows.specs.Put.{Put};
 ghost use Rattle.sizes.specs.Sizes.{most_slots};
 ghost use Rattle.text.specs.Text.{slot_line, line_most};
 
-use libc::{STDIN_FILENO, STDOUT_FILENO};
 use line::Line;
 use sizes::Verdict;
+use std::io::Write;
 use text::write;
 use walk::hand;
 use walk::hand::PLACES;
@@ -18,23 +18,26 @@ use walk::hand::PLACES;
 // A byte more than the longest good input, four numbers of 20 digits: more is not looked at.
 const LONGEST: usize = 85;
 
+// Room for some hundreds of lines, which are written at once.
+const BUFFER: usize = 65536;
+
 // Prints the line of a refusal.
-fn refuse(number: u8, out: &mut [u8])
+fn refuse<W: Write>(number: u8, out: &mut [u8], output: &mut W)
     requires { line_most ≤ length out.old }
 {
     let end = write::put_refused(out, 0, number);
-    io::write_all(STDOUT_FILENO, &out[..end]);
+    streams::write_all(output, &out[..end]);
 }
 
 // Room for one more line: what stands in the buffer up to `end` is printed where it is short.
-fn make_room(out: &mut [u8], end: usize) -> usize
+fn make_room<W: Write>(out: &mut [u8], end: usize, output: &mut W) -> usize
     requires { (line_most ≤ length out.old) × (end ≤ length out.old) }
     ensures { result + line_most ≤ length out.new }
 {
     if write::LINE_MOST <= out.len() - end {
         return end;
     }
-    io::write_all(STDOUT_FILENO, &out[..end]);
+    streams::write_all(output, &out[..end]);
     0
 }
 
@@ -56,7 +59,7 @@ fn put_line(
 }
 
 // Prints a stretch that has been checked.
-fn list(n: usize, k: usize, rank: u64, t: u64, out: &mut [u8])
+fn list<W: Write>(n: usize, k: usize, rank: u64, t: u64, out: &mut [u8], output: &mut W)
     requires { (n ≤ most_slots) × (line_most ≤ length out.old) }
 {
     let made = hand::make(n, k, rank);
@@ -64,7 +67,7 @@ fn list(n: usize, k: usize, rank: u64, t: u64, out: &mut [u8])
     let mut end = write::put_head(out, 0, n as u64, k as u64, rank, t);
     let mut i = 0u64;
     while i < t {
-        let from = make_room(out, end);
+        let from = make_room(out, end, output);
         let told = walk.rank();
         let moved = walk.next();
         let modules = walk.modules;
@@ -73,28 +76,31 @@ fn list(n: usize, k: usize, rank: u64, t: u64, out: &mut [u8])
         walk = moved.walk;
         i += 1;
     }
-    let from = make_room(out, end);
+    let from = make_room(out, end, output);
     let told = walk.rank();
     let last = write::put_next(out, from, told.number);
-    io::write_all(STDOUT_FILENO, &out[..last]);
+    streams::write_all(output, &out[..last]);
 }
 
 // Prints what is asked for, or its refusal.
-fn answer(n: usize, k: usize, rank: u64, t: u64, out: &mut [u8])
+fn answer<W: Write>(n: usize, k: usize, rank: u64, t: u64, out: &mut [u8], output: &mut W)
     requires { line_most ≤ length out.old }
 {
     match stretch::judge(n, k, rank, t) {
-        Verdict::Refused(number, _) => refuse(number, out),
-        Verdict::Fine => list(n, k, rank, t, out),
+        Verdict::Refused(number, _) => refuse(number, out, output),
+        Verdict::Fine => list(n, k, rank, t, out, output),
     }
 }
 
-fn main() {
+fn main(rt: HostRuntime) {
     let mut input = [0u8; LONGEST];
-    let mut out = io::large_buffer();
-    let count = io::read_full(STDIN_FILENO, &mut input);
+    let mut out = [0u8; BUFFER];
+    let mut output = rt.stdout();
+    let count = streams::read_full(&mut rt.stdin(), &mut input);
     match line::read(&input[..count]) {
-        Line::Bad => refuse(17, &mut out),
-        Line::Numbers(n, k, rank, t) => answer(n as usize, k as usize, rank, t, &mut out),
+        Line::Bad => refuse(17, &mut out, &mut output),
+        Line::Numbers(n, k, rank, t) => {
+            answer(n as usize, k as usize, rank, t, &mut out, &mut output)
+        }
     }
 }

@@ -2,11 +2,12 @@
 // work on slices, and leave the streams to this.
 #![tactic(auto)]
 
-ghost use Rattle.std.specs.Prelude.{◌≤◌, length};
+ghost use Rattle.std.specs.Prelude.{◌≡◌, ◌≤◌, true, false, length, take};
 ghost use Rattle.text.specs.Text.{line_most};
 ghost use Rattle.print.specs.Prints.{Refuses};
+ghost use Rattle.print.specs.Streams.{PrintsRefusal, PrintsText};
 
-use libc::{STDERR_FILENO, STDOUT_FILENO};
+use std::io::Write;
 use text::write;
 
 // What stands in a buffer up to `end`, and whether it is the line of a refusal.
@@ -27,15 +28,17 @@ pub fn refusal(number: u8, place: u8, out: &mut [u8]) -> Printed
 
 // Prints it. A program has no exit status to tell by that a text could not be written, on a full disk
 // say: standard error tells it.
-pub fn print(printed: Printed, out: &[u8])
+pub fn print<O: Write, E: Write>(printed: Printed, out: &[u8], output: &mut O, errors: &mut E)
     requires { printed.end ≤ length out.now }
+    ensures refusal { printed.refused ≡ true → PrintsRefusal (take printed.end out.now) (O.contents output.old) (O.contents output.new) (E.contents errors.old) (E.contents errors.new) }
+    ensures text { printed.refused ≡ false → PrintsText (take printed.end out.now) (O.contents output.old) (O.contents output.new) (E.contents errors.old) (E.contents errors.new) }
 {
     let end = printed.end;
     if printed.refused {
-        io::write_all(STDERR_FILENO, &out[..end]);
+        streams::write_all(errors, &out[..end]);
         return;
     }
-    if !io::write_all(STDOUT_FILENO, &out[..end]) {
-        io::write_all(STDERR_FILENO, b"not written\n");
+    if !streams::write_all(output, &out[..end]) {
+        streams::write_all(errors, b"not written\n");
     }
 }
