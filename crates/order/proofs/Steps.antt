@@ -76,7 +76,7 @@ module _ (m k j : ℕ) (M S : ℕ → ℕ) (l : j ≤ m) where
 
 -- ---- the flip of all slots
 
--- after it, where v:c was last: slot i has the module restoredModule (suc m) v i, and this setting
+-- after it, where v:c was last: slot i has the module restored_module (suc m) v i, and this setting
 rolled_setting : ℕ → ℕ → ℕ → ℕ → ℕ → ℕ
 rolled_setting n k v c i = if_lt n (v + i) c (raised k c)
 

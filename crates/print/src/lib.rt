@@ -26,8 +26,8 @@ pub fn refusal(number: u8, place: u8, out: &mut [u8]) -> Printed
     Printed { refused: true, end }
 }
 
-// Prints it. A program has no exit status to tell by that a text could not be written, on a full disk
-// say: standard error tells it.
+// Prints it. That a text could not be written, on a full disk say, is told on standard error and by no
+// exit status.
 pub fn print<O: Write, E: Write>(printed: Printed, out: &[u8], output: &mut O, errors: &mut E)
     requires { printed.end ≤ length out.now }
     ensures refusal { printed.refused ≡ true → PrintsRefusal (take printed.end out.now) (O.contents output.old) (O.contents output.new) (E.contents errors.old) (E.contents errors.new) }
