@@ -15,7 +15,6 @@ import subprocess
 import sys
 
 ROOT = os.getcwd()
-LIBRARY = "/opt/rattle/rattle"
 
 # what port.py garbled, and names that would fall together with another
 GIVEN = {
@@ -114,18 +113,6 @@ def snake(name):
         return GIVEN[name]
     name = re.sub(r"([a-z0-9])([A-Z])", r"\1-\2", name)
     return name.replace("-", "_").lower()
-
-
-def library_names():
-    found = set()
-    for folder, dirs, files in os.walk(LIBRARY):
-        for f in files:
-            if f.endswith(".antt"):
-                for line in read(os.path.join(folder, f)).split("\n"):
-                    m = DEFINED.match(line)
-                    if m:
-                        found.add(m.group(1))
-    return found
 
 
 def bound(line):

@@ -10,8 +10,7 @@ use Rattle.book.specs.Format.{format_one}
 use Rattle.book.specs.Read.{n_of, asked_verdict}
 use Rattle.book.proofs.Checks.{lent_fine}
 use Rattle.entry.specs.Entry.{entry_number, entry_leaves}
-use Rattle.entry.proofs.read_lent.Goals.{Else-refuses}
-use Rattle.entry.proofs.read_lent.Goals.{After-settings-k}
+use Rattle.entry.proofs.read_lent.Goals.{Else-refuses, After-settings-k}
 use Rattle.entry.proofs.read_lent.Goals as goal
 
 pub returns-then-refuses : goal.returns-then-refuses
@@ -31,9 +30,6 @@ slots-n-requires c = (asked (goal.at.slots-n-requires c).Else-refuses).0
 pub settings-k-requires : goal.settings-k-requires
 settings-k-requires c = (asked (goal.at.settings-k-requires c).Else-refuses).0
 
-pub write-requires : goal.write-requires
-write-requires c = asked (goal.at.write-requires c).Else-refuses
-
 -- n and k, as one number
 number_is : (c : After-settings-k) →
     let a = c.args in
@@ -46,3 +42,6 @@ unfolding entry_leaves
 returns c =
     done_does _ _ _ _ _ c.judge-verdict.ensures c.refuses.ensures c.if-refuses.false
     (number_is (goal.at.returns c).After-settings-k) c.write.ensures.modules_after c.write.ensures.settings_after
+
+pub write-requires : goal.write-requires
+write-requires c = asked (goal.at.write-requires c).Else-refuses

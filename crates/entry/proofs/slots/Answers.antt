@@ -14,7 +14,7 @@ bounds-book-entry_place c =
     omega (arith, c.entry_place.ensures, (entry_asked _ c.requires).inside_book)
 
 pub overflow_cast-result : goal.overflow_cast-result
-overflow_cast-result c = omega (arith, c.shared_slice_known-2-1.given c.entry_place.result)
+overflow_cast-result c = omega (arith, c.type_inv.book c.entry_place.result)
 
 pub returns : goal.returns
 returns c =

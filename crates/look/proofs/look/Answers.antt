@@ -5,7 +5,7 @@ use Rattle.look.proofs.Looks.{looking_first, stops_by_setting, stops_by_module, 
 use Rattle.look.proofs.look.Goals as goal
 
 pub overflow_cast-front : goal.overflow_cast-front
-overflow_cast-front c = omega (arith, c.shared_slice_known-3-1.given 0)
+overflow_cast-front c = omega (arith, c.type_inv.modules 0)
 
 pub raise-raised-requires : goal.raise-raised-requires
 raise-raised-requires c =
@@ -16,7 +16,7 @@ pub loop-i-init : goal.loop-i-init
 loop-i-init c = looking_first refl refl c.raise-raised.ensures
 
 pub overflow_cast-module : goal.overflow_cast-module
-overflow_cast-module c = omega (arith, c.shared_slice_known-in-loop-i-1.given (c.loop-i.i + 1))
+overflow_cast-module c = omega (arith, c.type_inv.modules (c.loop-i.i + 1))
 
 pub returns-then-settings-next : goal.returns-then-settings-next
 returns-then-settings-next c =

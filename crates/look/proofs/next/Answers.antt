@@ -4,10 +4,6 @@ use Rattle.rows.specs.Row.{row}
 use Rattle.look.proofs.Looks.{look_flippable}
 use Rattle.look.proofs.next.Goals as goal
 
-pub flip-requires : goal.flip-requires
-flip-requires c =
-    look_flippable c.requires c.look-j.ensures
-
 pub returns : goal.returns
 returns c =
     let asked = c.requires in record {
@@ -15,3 +11,7 @@ returns c =
       modules_after = c.flip.ensures.modules_after ∙ ap (row _) asked.modules;
       settings_after = c.flip.ensures.settings_after ∙ ap (row _) asked.settings;
     }
+
+pub flip-requires : goal.flip-requires
+flip-requires c =
+    look_flippable c.requires c.look-j.ensures

@@ -5,7 +5,7 @@ use native.Mathlib.Omega.{arith}
 use Rattle.step.proofs.place.Goals as goal
 
 pub overflow_cast-result : goal.overflow_cast-result
-overflow_cast-result c = omega (arith, c.shared_slice_known-1.given (c.args.j - 1))
+overflow_cast-result c = omega (arith, c.type_inv.numbers (c.args.j - 1))
 
 pub returns : goal.returns
-returns c = (refl, omega (arith, c.shared_slice_known-1.given (c.args.j - 1)))
+returns c = (refl, omega (arith, c.type_inv.numbers (c.args.j - 1)))

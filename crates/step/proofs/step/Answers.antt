@@ -5,8 +5,7 @@ use native.Mathlib.Omega.{arith}
 use lib.ListN.{length}
 use Rattle.board.proofs.Runs.{lowest_range}
 use Rattle.step.proofs.Verdicts.{Pointed, pointed_digit, closing, gaining, filling}
-use Rattle.step.proofs.step.Goals.{After-lowest_digit-s}
-use Rattle.step.proofs.step.Goals.{Else-n-x}
+use Rattle.step.proofs.step.Goals.{After-lowest_digit-s, Else-n-x}
 use Rattle.step.proofs.step.Goals as goal
 
 -- the place s fits the pointers

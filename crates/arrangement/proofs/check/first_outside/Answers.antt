@@ -10,7 +10,7 @@ pub loop-i-init : goal.loop-i-init
 loop-i-init c = (search rules, none_yet _)
 
 pub overflow_cast-byte : goal.overflow_cast-byte
-overflow_cast-byte c = omega (arith, c.shared_slice_known-1.given c.loop-i.i)
+overflow_cast-byte c = omega (arith, c.type_inv.slots c.loop-i.i)
 
 pub returns-then-byte-low : goal.returns-then-byte-low
 returns-then-byte-low c = sym (found _ _ _ c.loop-i.invariant.1 (below_range _ _ _ c.if-byte-low.true) (search rules))

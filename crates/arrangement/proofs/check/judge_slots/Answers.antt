@@ -8,8 +8,7 @@ use Rattle.sizes.specs.Refusal.{refused_at_lem}
 use Rattle.sizes.proofs.Refusals.{stops, goes_on, was_fine}
 use Rattle.arrangement.specs.Check.{bad_module, repeated, slots_verdict}
 use Rattle.arrangement.proofs.Checks.{searched, place_le, module_place, setting_place, modules_marked}
-use Rattle.arrangement.proofs.check.judge_slots.Goals.{After-refused_at-module}
-use Rattle.arrangement.proofs.check.judge_slots.Goals.{After-refused_at-repeat}
+use Rattle.arrangement.proofs.check.judge_slots.Goals.{After-refused_at-module, After-refused_at-repeat}
 use Rattle.arrangement.proofs.check.judge_slots.Goals as goal
 
 pub refused_at-module-requires : goal.refused_at-module-requires

@@ -14,7 +14,7 @@ pub loop-i-init : goal.loop-i-init
 loop-i-init c = (search rules, unmarked _, tally_begun _)
 
 pub overflow_cast-module : goal.overflow_cast-module
-overflow_cast-module c = omega (arith, c.shared_slice_known-1.given c.loop-i.i)
+overflow_cast-module c = omega (arith, c.type_inv.modules c.loop-i.i)
 
 -- the module of slot i has a mark of its own, and what it is
 low : (c : In-loop-i) → at c.args.modules.now c.loop-i.i < wide

@@ -15,7 +15,7 @@ pub bounds-pointers-i : goal.bounds-pointers-i
 bounds-pointers-i c = omega (arith, c.requires.pointers)
 
 pub overflow_cast-pointer : goal.overflow_cast-pointer
-overflow_cast-pointer c = omega (arith, c.shared_slice_known-in-loop-i-1.given c.loop-i.i)
+overflow_cast-pointer c = omega (arith, c.type_inv.pointers c.loop-i.i)
 
 pub bounds-counters-i : goal.bounds-counters-i
 bounds-counters-i c = omega (arith, c.requires.counters)

@@ -4,9 +4,7 @@ use mathlib.Core.Bool.{true, false}
 use mathlib.Core.Logic.{◌≢◌}
 use Rattle.board.specs.Board.{place, counters, pointers}
 use Rattle.board.proofs.Readings.{ReadOff, digits_asked, board_found, counters_differ, pointers_differ, counters_held, pointers_held}
-use Rattle.board.proofs.read.read_lent.Goals.{After-read_digits-read}
-use Rattle.board.proofs.read.read_lent.Goals.{After-holds}
-use Rattle.board.proofs.read.read_lent.Goals.{After-holds-2}
+use Rattle.board.proofs.read.read_lent.Goals.{After-read_digits-read, After-holds, After-holds-2}
 use Rattle.board.proofs.read.read_lent.Goals as goal
 
 -- what was read off the two buffers

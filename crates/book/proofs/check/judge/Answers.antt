@@ -30,7 +30,7 @@ bounds-book-1 c =
     omega (arith, (checked format_one _ (was_fine c.judge_book-whole.ensures c.refuses.ensures c.if-refuses.false)).headed)
 
 pub overflow_cast-book : goal.overflow_cast-book
-overflow_cast-book c = omega (arith, c.shared_slice_known-2-1.given 1)
+overflow_cast-book c = omega (arith, c.type_inv.book 1)
 
 pub returns-then-book-entry : goal.returns-then-book-entry
 unfolding asked_verdict entries_of

@@ -9,9 +9,7 @@ use Rattle.book.specs.Format.{format_one, entry_place_lem}
 use Rattle.book.specs.Read.{entries_of, n_of, k_of, expected, first_of, body_verdict}
 use Rattle.book.proofs.Checks.{none_judged, entry_passed, stops_in, entry_inside, n_read, k_read, expected_first, expected_next, body_inside, body_judged}
 use borrow.Author.Rules.{rules}
-use Rattle.book.proofs.check.judge_bodies.Goals.{In-loop-i}
-use Rattle.book.proofs.check.judge_bodies.Goals.{After-entry_place-entry}
-use Rattle.book.proofs.check.judge_bodies.Goals.{After-judge_body-verdict}
+use Rattle.book.proofs.check.judge_bodies.Goals.{In-loop-i, After-entry_place-entry, After-judge_body-verdict}
 use Rattle.book.proofs.check.judge_bodies.Goals as goal
 
 pub entry_place-place-requires : goal.entry_place-place-requires
@@ -47,7 +45,7 @@ bounds-book-entry c =
     omega (arith, c.entry_place-entry.ensures, entry_inside c.requires.0.contents (one (goal.at.bounds-book-entry c).In-loop-i))
 
 pub overflow_cast-n : goal.overflow_cast-n
-overflow_cast-n c = omega (arith, c.shared_slice_known-in-loop-i-1.given c.entry_place-entry.result)
+overflow_cast-n c = omega (arith, c.type_inv.book c.entry_place-entry.result)
 
 pub overflow_add-entry : goal.overflow_add-entry
 unfolding entry_place_lem
@@ -60,7 +58,7 @@ bounds-book-entry-in-loop-i c =
     omega (arith, c.entry_place-entry.ensures, entry_inside c.requires.0.contents (one (goal.at.bounds-book-entry-in-loop-i c).In-loop-i))
 
 pub overflow_cast-book : goal.overflow_cast-book
-overflow_cast-book c = omega (arith, c.shared_slice_known-in-loop-i-2-1.given (c.entry_place-entry.result + 1))
+overflow_cast-book c = omega (arith, c.type_inv.book (c.entry_place-entry.result + 1))
 
 pub judge_body-verdict-requires : goal.judge_body-verdict-requires
 judge_body-verdict-requires c =

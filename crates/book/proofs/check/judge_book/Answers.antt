@@ -13,8 +13,7 @@ use Rattle.book.specs.Format.{format_one, most_entries, entry_place_lem}
 use Rattle.book.specs.Asked.{ContentsAsked}
 use Rattle.book.specs.Read.{entries_of, cut_verdict, head_verdict, book_verdict}
 use Rattle.book.proofs.Checks.{misplaced, in_place, bodies_asked}
-use Rattle.book.proofs.check.judge_book.Goals.{Else-entries-gt-MOST_ENTRIES}
-use Rattle.book.proofs.check.judge_book.Goals.{Else-book-entry_place}
+use Rattle.book.proofs.check.judge_book.Goals.{Else-entries-gt-MOST_ENTRIES, Else-book-entry_place}
 use Rattle.book.proofs.check.judge_book.Goals as goal
 
 pub returns-then-book-lt2 : goal.returns-then-book-lt2
@@ -27,7 +26,7 @@ returns-then-book-ne1 c =
     faultless 13 (le-ltb _ 2 c.if-book-lt2.false) (faulty 14 _ (misplaced _ 1 _ c.if-book-ne1.true))
 
 pub overflow_cast-entries : goal.overflow_cast-entries
-overflow_cast-entries c = omega (arith, c.shared_slice_known-3-1.given 1)
+overflow_cast-entries c = omega (arith, c.type_inv.book 1)
 
 pub returns-then-entries-lt1 : goal.returns-then-entries-lt1
 unfolding book_verdict cut_verdict head_verdict entries_of format_one

@@ -42,7 +42,7 @@ bounds-book-entry_place c =
     omega (arith, c.entry_place.ensures, entry_inside {i = c.loop-i.i} pre.0 (omega (arith, c.loop-i-test.true, pre.1)))
 
 pub overflow_cast-place : goal.overflow_cast-place
-overflow_cast-place c = omega (arith, c.shared_slice_known-in-loop-i-1.given c.entry_place.result)
+overflow_cast-place c = omega (arith, c.type_inv.book c.entry_place.result)
 
 pub overflow_add-place : goal.overflow_add-place
 unfolding Bytes
@@ -54,8 +54,8 @@ overflow_add-place c =
       c.loop-i-test.true,
       pre.1,
       pre.0.few,
-      expected_high _ (λ j. omega (arith, c.shared_slice_known-in-loop-i-1.given j)) pre.0.few c.loop-i.i,
-      c.shared_slice_known-in-loop-i-1.given c.entry_place.result,
+      expected_high _ (λ j. omega (arith, c.type_inv.book j)) pre.0.few c.loop-i.i,
+      c.type_inv.book c.entry_place.result,
     )
 
 pub loop-i-preserved : goal.loop-i-preserved

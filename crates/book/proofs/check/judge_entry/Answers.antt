@@ -13,12 +13,7 @@ use Rattle.arrangement.proofs.Checks.{wrong_length, right_length}
 use Rattle.book.specs.Format.{format_one, entry_place_lem}
 use Rattle.book.specs.Read.{n_of, k_of, offset_of, count_of, expected, entry_verdict}
 use Rattle.book.proofs.Checks.{entry_inside, n_read, k_read, offset_read, count_read, count_judged}
-use Rattle.book.proofs.check.judge_entry.Goals.{After-entry_place-entry}
-use Rattle.book.proofs.check.judge_entry.Goals.{After-judge-size}
-use Rattle.book.proofs.check.judge_entry.Goals.{Else-refuses}
-use Rattle.book.proofs.check.judge_entry.Goals.{After-number_in-offset}
-use Rattle.book.proofs.check.judge_entry.Goals.{Else-offset-place}
-use Rattle.book.proofs.check.judge_entry.Goals.{After-number_in}
+use Rattle.book.proofs.check.judge_entry.Goals.{After-entry_place-entry, After-judge-size, Else-refuses, After-number_in-offset, Else-offset-place, After-number_in}
 use Rattle.book.proofs.check.judge_entry.Goals as goal
 
 pub entry_place-entry-requires : goal.entry_place-entry-requires
@@ -32,7 +27,7 @@ pub bounds-book-entry : goal.bounds-book-entry
 bounds-book-entry c = omega (arith, c.entry_place-entry.ensures, inside (goal.at.bounds-book-entry c).After-entry_place-entry)
 
 pub overflow_cast-n : goal.overflow_cast-n
-overflow_cast-n c = omega (arith, c.shared_slice_known-2-1.given c.entry_place-entry.result)
+overflow_cast-n c = omega (arith, c.type_inv.book c.entry_place-entry.result)
 
 pub overflow_add-k : goal.overflow_add-k
 unfolding entry_place_lem
@@ -42,7 +37,7 @@ pub bounds-book-entry-2 : goal.bounds-book-entry-2
 bounds-book-entry-2 c = omega (arith, c.entry_place-entry.ensures, inside (goal.at.bounds-book-entry-2 c).After-entry_place-entry)
 
 pub overflow_cast-k : goal.overflow_cast-k
-overflow_cast-k c = omega (arith, c.shared_slice_known-3-1.given (c.entry_place-entry.result + 1))
+overflow_cast-k c = omega (arith, c.type_inv.book (c.entry_place-entry.result + 1))
 
 -- what is read is what the entry says
 sized : (c : After-judge-size) →

@@ -11,6 +11,9 @@ use Rattle.flip.proofs.Flips.{flip_lengths}
 use Rattle.limpet.proofs.Answers.{does_leaves, number_fits}
 use Rattle.limpet.proofs.of_arrangements.limpet_flip.Goals as goal
 
+pub returns : goal.returns
+returns c = does_leaves c.flip_lent.ensures c.pack_told.ensures
+
 pub pack_told-requires : goal.pack_told-requires
 unfolding flip_leaves outcome
 pack_told-requires c =
@@ -23,6 +26,3 @@ shape_of-modules c = ap length c.flip_lent.ensures.one_is ∙ left_long _ _ _ (�
 pub shape_of-settings : goal.shape_of-settings
 unfolding flip_leaves outcome
 shape_of-settings c = ap length c.flip_lent.ensures.two_is ∙ left_long _ _ _ (λ fine. length_row _ _ ∙ sym (flip_lengths _ _ _ _ _ fine).1)
-
-pub returns : goal.returns
-returns c = does_leaves c.flip_lent.ensures c.pack_told.ensures

@@ -8,10 +8,10 @@ unfolding book_count_returns
 returns-then-refuses c =
     record { returned_is = refused_number _ c.judge.ensures c.refuses.ensures c.if-refuses.true }
 
-pub count-requires : goal.count-requires
-count-requires c = was_fine c.judge.ensures c.refuses.ensures c.if-refuses.false
-
 pub returns : goal.returns
 unfolding book_count_returns
 returns c =
     record { returned_is = done_number c.judge.ensures c.refuses.ensures c.if-refuses.false c.count.ensures }
+
+pub count-requires : goal.count-requires
+count-requires c = was_fine c.judge.ensures c.refuses.ensures c.if-refuses.false

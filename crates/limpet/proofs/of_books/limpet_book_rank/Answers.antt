@@ -8,10 +8,10 @@ unfolding book_rank_returns
 returns-then-refuses c =
     record { returned_is = refused_number _ c.judge.ensures c.refuses.ensures c.if-refuses.true }
 
-pub rank-requires : goal.rank-requires
-rank-requires c = was_fine c.judge.ensures c.refuses.ensures c.if-refuses.false
-
 pub returns : goal.returns
 unfolding book_rank_returns
 returns c =
     record { returned_is = done_number c.judge.ensures c.refuses.ensures c.if-refuses.false c.rank.ensures }
+
+pub rank-requires : goal.rank-requires
+rank-requires c = was_fine c.judge.ensures c.refuses.ensures c.if-refuses.false

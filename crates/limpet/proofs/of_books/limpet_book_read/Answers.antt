@@ -10,6 +10,9 @@ use Rattle.entry.specs.Entry.{entry_number, entry_leaves}
 use Rattle.limpet.proofs.Answers.{does_leaves, number_fits}
 use Rattle.limpet.proofs.of_books.limpet_book_read.Goals as goal
 
+pub returns : goal.returns
+returns c = does_leaves c.read_lent.ensures c.pack_told.ensures
+
 pub pack_told-requires : goal.pack_told-requires
 unfolding entry_leaves entry_number outcome
 pack_told-requires c =
@@ -22,6 +25,3 @@ shape_of-modules c = ap length c.read_lent.ensures.one_is ∙ left_long _ _ _ (�
 pub shape_of-settings : goal.shape_of-settings
 unfolding entry_leaves entry_number outcome
 shape_of-settings c = ap length c.read_lent.ensures.two_is ∙ left_long _ _ _ (λ fine. length_row _ _ ∙ sym (lent_fine _ _ _ _ _ fine).2)
-
-pub returns : goal.returns
-returns c = does_leaves c.read_lent.ensures c.pack_told.ensures

@@ -12,6 +12,9 @@ use Rattle.look.proofs.Looks.{look_small}
 use Rattle.limpet.proofs.Answers.{does_leaves, number_fits}
 use Rattle.limpet.proofs.of_looks.limpet_next.Goals as goal
 
+pub returns : goal.returns
+returns c = does_leaves c.next_lent.ensures c.pack_told.ensures
+
 pub pack_told-requires : goal.pack_told-requires
 unfolding next_leaves outcome
 pack_told-requires c =
@@ -24,6 +27,3 @@ shape_of-modules c = ap length c.next_lent.ensures.one_is ∙ left_long _ _ _ (�
 pub shape_of-settings : goal.shape_of-settings
 unfolding next_leaves outcome
 shape_of-settings c = ap length c.next_lent.ensures.two_is ∙ left_long _ _ _ (λ fine. length_row _ _ ∙ sym (lent_asked _ _ _ _ fine).settings)
-
-pub returns : goal.returns
-returns c = does_leaves c.next_lent.ensures c.pack_told.ensures

@@ -11,6 +11,9 @@ use Rattle.order.proofs.Checks.{write_asked}
 use Rattle.limpet.proofs.Answers.{does_leaves, number_fits}
 use Rattle.limpet.proofs.of_ranks.limpet_unrank.Goals as goal
 
+pub returns : goal.returns
+returns c = does_leaves c.write_lent.ensures c.pack_told.ensures
+
 pub pack_told-requires : goal.pack_told-requires
 unfolding unrank_leaves outcome
 pack_told-requires c =
@@ -23,6 +26,3 @@ shape_of-modules c = ap length c.write_lent.ensures.one_is ∙ left_long _ _ _ (
 pub shape_of-settings : goal.shape_of-settings
 unfolding unrank_leaves outcome
 shape_of-settings c = ap length c.write_lent.ensures.two_is ∙ left_long _ _ _ (λ fine. length_row _ _ ∙ sym (write_asked _ _ _ _ _ fine).settings)
-
-pub returns : goal.returns
-returns c = does_leaves c.write_lent.ensures c.pack_told.ensures

@@ -4,8 +4,7 @@ use mathlib.Core.Bool.{cond}
 use native.Mathlib.Omega.{arith}
 use Rattle.stretch.specs.Asked.{StretchAsked}
 use Rattle.stretch.proofs.Counts.{counted_first, step_asked, counted_on, counted_all}
-use Rattle.stretch.proofs.pair.count_by.Goals.{At-loop-i}
-use Rattle.stretch.proofs.pair.count_by.Goals.{Joined-stand_together, then-stand_together, else-stand_together}
+use Rattle.stretch.proofs.pair.count_by.Goals.{At-loop-i, Joined-stand_together, then-stand_together, else-stand_together}
 use Rattle.stretch.proofs.pair.count_by.Goals as goal
 
 pub seat_of-first-requires : goal.seat_of-first-requires

@@ -9,7 +9,7 @@ pub bounds-modules-i : goal.bounds-modules-i
 bounds-modules-i c = omega (arith, c.requires.modules)
 
 pub overflow_cast-modules : goal.overflow_cast-modules
-overflow_cast-modules c = omega (arith, c.shared_slice_known-1.given c.loop-i.i)
+overflow_cast-modules c = omega (arith, c.type_inv.modules c.loop-i.i)
 
 pub bounds-settings-i : goal.bounds-settings-i
 bounds-settings-i c = omega (arith, c.requires.settings)

@@ -13,9 +13,6 @@ slice_bounds-flip-end c = sym (length-take-le _ _ (search rules))
 pub slice_bounds-flip-end-2 : goal.slice_bounds-flip-end-2
 slice_bounds-flip-end-2 c = sym (length-take-le _ _ (search rules))
 
-pub flip-requires : goal.flip-requires
-flip-requires c = places_flippable _ _ _ _ c.requires.0 c.requires.1 (length-take-le _ _ (search rules)) (length-take-le _ _ (search rules))
-
 pub returns : goal.returns
 unfolding flipped_walk
 returns c =
@@ -25,3 +22,6 @@ returns c =
       modules = modules_flipped _ c.args.k _ _ c.requires.1 (length-take-le _ _ (search rules)) c.flip.ensures.modules_after i;
       settings = settings_flipped _ _ _ _ c.requires.1 (length-take-le _ _ (search rules)) c.flip.ensures.settings_after i;
     }
+
+pub flip-requires : goal.flip-requires
+flip-requires c = places_flippable _ _ _ _ c.requires.0 c.requires.1 (length-take-le _ _ (search rules)) (length-take-le _ _ (search rules))

@@ -10,9 +10,7 @@ use Rattle.book.specs.Format.{most_entries}
 use Rattle.writer.specs.Write.{Lists, lists, stretches_in, lists_verdict, few_verdict, room_verdict, write_verdict}
 use Rattle.writer.proofs.Checks.{one_length}
 use Rattle.writer.proofs.Pieces.{room_short, room_enough}
-use Rattle.writer.proofs.check.judge.Goals.{Else-refuses}
-use Rattle.writer.proofs.check.judge.Goals.{Else-ns-gt-MOST_ENTRIES}
-use Rattle.writer.proofs.check.judge.Goals.{Else-refuses-2}
+use Rattle.writer.proofs.check.judge.Goals.{Else-refuses, Else-ns-gt-MOST_ENTRIES, Else-refuses-2}
 use Rattle.writer.proofs.check.judge.Goals as goal
 
 pub returns-then-refuses : goal.returns-then-refuses

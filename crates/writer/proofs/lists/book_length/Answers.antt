@@ -12,14 +12,14 @@ pub loop-i-init : goal.loop-i-init
 loop-i-init c = (search rules, c.entry_place-length.ensures ∙ sym (place_first _ _))
 
 pub overflow_cast-length : goal.overflow_cast-length
-overflow_cast-length c = omega (arith, c.shared_slice_known-in-loop-i-1.given c.loop-i.i)
+overflow_cast-length c = omega (arith, c.type_inv.ns c.loop-i.i)
 
 pub overflow_add-length : goal.overflow_add-length
 unfolding entry_place_lem
 overflow_add-length c =
     let pre = c.requires in
     let ns = c.args.ns.now in
-    omega (arith, pre, c.loop-i.invariant.1, c.loop-i-test.true, c.shared_slice_known-in-loop-i-1.given c.loop-i.i, place_high (long ns) (at ns) 255 c.loop-i.i (λ j l. omega (arith, c.shared_slice_known-in-loop-i-1.given j)))
+    omega (arith, pre, c.loop-i.invariant.1, c.loop-i-test.true, c.type_inv.ns c.loop-i.i, place_high (long ns) (at ns) 255 c.loop-i.i (λ j l. omega (arith, c.type_inv.ns j)))
 
 pub loop-i-preserved : goal.loop-i-preserved
 loop-i-preserved c =

@@ -4,10 +4,10 @@ use Rattle.writer.specs.Write.{lists, word_at, stretch_at_lem}
 use Rattle.writer.proofs.lists.stretch_at.Goals as goal
 
 pub overflow_cast-n : goal.overflow_cast-n
-overflow_cast-n c = omega (arith, c.shared_slice_known-5-1.given c.args.i)
+overflow_cast-n c = omega (arith, c.type_inv.ns c.args.i)
 
 pub overflow_cast-k : goal.overflow_cast-k
-overflow_cast-k c = omega (arith, c.shared_slice_known-6-1.given c.args.i)
+overflow_cast-k c = omega (arith, c.type_inv.ks c.args.i)
 
 pub returns : goal.returns
 unfolding stretch_at_lem word_at

@@ -14,6 +14,11 @@ lent c = let a = c.args in lists a.ns.now a.ks.now a.ranks.now a.counts.now
 pub loop-i-init : goal.loop-i-init
 loop-i-init c = (search rules, joined_first _)
 
+pub loop-i-preserved : goal.loop-i-preserved
+loop-i-preserved c =
+    let pre = c.requires in
+    (omega (arith, c.loop-i-test.true), bodies_on (lent (goal.at.loop-i-preserved c).At-loop-i) pre.1 pre.2 c.loop-i.i c.loop-i.invariant.1 c.loop-i-test.true c.stretch_at-body.ensures c.put_body-end.ensures)
+
 pub stretch_at-body-requires : goal.stretch_at-body-requires
 stretch_at-body-requires c = (c.requires.0.one_length, c.loop-i-test.true)
 
@@ -22,11 +27,6 @@ put_body-end-requires c =
     let pre = c.requires in
     let stretch = c.stretch_at-body.ensures in
     (body_room (lent (goal.at.put_body-end-requires c).At-loop-i) pre.1 pre.2 c.loop-i.i c.loop-i.invariant.1 c.loop-i-test.true stretch, (rw stretch (pre.0.bookable _ c.loop-i-test.true)))
-
-pub loop-i-preserved : goal.loop-i-preserved
-loop-i-preserved c =
-    let pre = c.requires in
-    (omega (arith, c.loop-i-test.true), bodies_on (lent (goal.at.loop-i-preserved c).At-loop-i) pre.1 pre.2 c.loop-i.i c.loop-i.invariant.1 c.loop-i-test.true c.stretch_at-body.ensures c.put_body-end.ensures)
 
 pub shape_of-out : goal.shape_of-out
 shape_of-out c = let pre = c.requires in bodies_kept (lent (goal.at.shape_of-out c).At-loop-i) pre.1 pre.2 c.loop-i.i c.loop-i.invariant.1 c.loop-i.invariant.0

@@ -7,8 +7,7 @@ use Rattle.book.specs.Format.{format_one, entry_place_lem, body_place}
 use Rattle.writer.specs.Write.{Lists, lists, stretch_at_lem}
 use Rattle.writer.proofs.Pieces.{place_first, place_next, place_high, joined_first, joined_all, entries_kept, entry_room, entries_on}
 use borrow.Author.Rules.{rules}
-use Rattle.writer.proofs.write.put_entries.Goals.{At-loop-i}
-use Rattle.writer.proofs.write.put_entries.Goals.{In-loop-i}
+use Rattle.writer.proofs.write.put_entries.Goals.{At-loop-i, In-loop-i}
 use Rattle.writer.proofs.write.put_entries.Goals as goal
 
 -- what was lent
@@ -40,10 +39,10 @@ put_entry-end-requires c =
     (entry_room (lent (goal.at.put_entry-end-requires c).At-loop-i) pre.1 c.loop-i.i c.loop-i.invariant.2 c.loop-i-test.true, (rw c.stretch_at-entry.ensures (pre.0.bookable _ c.loop-i-test.true)))
 
 pub overflow_cast-bodies : goal.overflow_cast-bodies
-overflow_cast-bodies c = omega (arith, c.shared_slice_known-in-loop-i-1.given c.loop-i.i)
+overflow_cast-bodies c = omega (arith, c.type_inv.ns c.loop-i.i)
 
 pub overflow_add-bodies : goal.overflow_add-bodies
-overflow_add-bodies c = omega (arith, c.loop-i.invariant.1, fits (goal.at.overflow_add-bodies c).In-loop-i, c.shared_slice_known-in-loop-i-1.given c.loop-i.i)
+overflow_add-bodies c = omega (arith, c.loop-i.invariant.1, fits (goal.at.overflow_add-bodies c).In-loop-i, c.type_inv.ns c.loop-i.i)
 
 pub loop-i-preserved : goal.loop-i-preserved
 loop-i-preserved c =

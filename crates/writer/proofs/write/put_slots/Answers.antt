@@ -8,6 +8,12 @@ use Rattle.writer.proofs.Pieces.{row_first, row_long, row_on}
 use borrow.Author.Rules.{rules}
 use Rattle.writer.proofs.write.put_slots.Goals as goal
 
+pub returns : goal.returns
+returns c =
+    let a = c.args in
+    let all : c.loop-i.i ≡ length a.modules.now = omega (arith, c.loop-i.invariant.0, c.loop-i-test.false) in
+    put_as (ap (row (format_one.byte (at a.modules.now) (at a.settings.now))) all) (omega (arith, all)) c.loop-i.invariant.1
+
 pub loop-i-init : goal.loop-i-init
 loop-i-init c = (search rules, row_first _)
 
@@ -35,9 +41,3 @@ loop-i-preserved c =
 
 pub shape_of-out : goal.shape_of-out
 shape_of-out c = row_long _ c.loop-i.i (omega (arith, c.requires.room, c.loop-i.invariant.0)) c.loop-i.invariant.1
-
-pub returns : goal.returns
-returns c =
-    let a = c.args in
-    let all : c.loop-i.i ≡ length a.modules.now = omega (arith, c.loop-i.invariant.0, c.loop-i-test.false) in
-    put_as (ap (row (format_one.byte (at a.modules.now) (at a.settings.now))) all) (omega (arith, all)) c.loop-i.invariant.1
