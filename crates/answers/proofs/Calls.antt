@@ -12,7 +12,7 @@ use Rattle.board.specs.Read.{rank_read}
 use Rattle.step.specs.Step.{step_leaves}
 use Rattle.entry.specs.Entry.{entry_leaves}
 use Rattle.writer.specs.Write.{Lists, write_tells, write_leaves}
-use Rattle.limpet.specs.Answer.{Returns, Leaves, Writes}
+use Rattle.limpet.specs.Answer.{Returns, Leaves, Writes, no_value, own_value}
 use Rattle.limpet.specs.Calls.{round_returns, total_returns, check_returns, rank_value_returns, look_returns, ReadReturns, verdict_shown, pair_returns, book_count_returns, book_rank_returns}
 use Rattle.limpet.proofs.Answers.{one_number, one_outcome, one_writing, one_read}
 
@@ -59,20 +59,20 @@ one_book_write l buffer p q = one_writing p q
 -- ---- calls that write two buffers, of which a and b, or c and d, are the contents at the end
 
 module _ {r s : ℕ} {a b c d : List ℕ} where
-  pub one_flip : (n k j : ℕ) (ms ss : List ℕ) → Leaves (flip_leaves n k j ms ss) r a b → Leaves (flip_leaves n k j ms ss) s c d → (r ≡ s) × (a ≡ c) × (b ≡ d)
+  pub one_flip : (n k j : ℕ) (ms ss : List ℕ) → Leaves no_value (flip_leaves n k j ms ss) r a b → Leaves no_value (flip_leaves n k j ms ss) s c d → (r ≡ s) × (a ≡ c) × (b ≡ d)
   one_flip n k j ms ss p q = one_outcome p q
 
-  pub one_unrank : (n k rank : ℕ) (ms ss : List ℕ) → Leaves (unrank_leaves n k rank ms ss) r a b → Leaves (unrank_leaves n k rank ms ss) s c d → (r ≡ s) × (a ≡ c) × (b ≡ d)
+  pub one_unrank : (n k rank : ℕ) (ms ss : List ℕ) → Leaves no_value (unrank_leaves n k rank ms ss) r a b → Leaves no_value (unrank_leaves n k rank ms ss) s c d → (r ≡ s) × (a ≡ c) × (b ≡ d)
   one_unrank n k rank ms ss p q = one_outcome p q
 
-  pub one_next : (n k : ℕ) (ms ss : List ℕ) → Leaves (next_leaves n k ms ss) r a b → Leaves (next_leaves n k ms ss) s c d → (r ≡ s) × (a ≡ c) × (b ≡ d)
+  pub one_next : (n k : ℕ) (ms ss : List ℕ) → Leaves own_value (next_leaves n k ms ss) r a b → Leaves own_value (next_leaves n k ms ss) s c d → (r ≡ s) × (a ≡ c) × (b ≡ d)
   one_next n k ms ss p q = one_outcome p q
 
-  pub one_board_write : (n k rank : ℕ) (cs fs : List ℕ) → Leaves (board_leaves n k rank cs fs) r a b → Leaves (board_leaves n k rank cs fs) s c d → (r ≡ s) × (a ≡ c) × (b ≡ d)
+  pub one_board_write : (n k rank : ℕ) (cs fs : List ℕ) → Leaves no_value (board_leaves n k rank cs fs) r a b → Leaves no_value (board_leaves n k rank cs fs) s c d → (r ≡ s) × (a ≡ c) × (b ≡ d)
   one_board_write n k rank cs fs p q = one_outcome p q
 
-  pub one_board_step : (n k : ℕ) (cs fs : List ℕ) → Leaves (step_leaves n k cs fs) r a b → Leaves (step_leaves n k cs fs) s c d → (r ≡ s) × (a ≡ c) × (b ≡ d)
+  pub one_board_step : (n k : ℕ) (cs fs : List ℕ) → Leaves own_value (step_leaves n k cs fs) r a b → Leaves own_value (step_leaves n k cs fs) s c d → (r ≡ s) × (a ≡ c) × (b ≡ d)
   one_board_step n k cs fs p q = one_outcome p q
 
-  pub one_book_read : (book : List ℕ) (entry : ℕ) (ms ss : List ℕ) → Leaves (entry_leaves book entry ms ss) r a b → Leaves (entry_leaves book entry ms ss) s c d → (r ≡ s) × (a ≡ c) × (b ≡ d)
+  pub one_book_read : (book : List ℕ) (entry : ℕ) (ms ss : List ℕ) → Leaves own_value (entry_leaves book entry ms ss) r a b → Leaves own_value (entry_leaves book entry ms ss) s c d → (r ≡ s) × (a ≡ c) × (b ≡ d)
   one_book_read book entry ms ss p q = one_outcome p q

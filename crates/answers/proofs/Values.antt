@@ -1,33 +1,35 @@
 -- Each call from Rattle that has no `requires` leaves one answer. Most promise an equation with a total function of what came in;
 -- the readings of a board and of the listing's input are relations, with one answer by their own theorems. Assumes nothing.
+use Rattle.std.proofs.Common.{Option, Result}
+use Rattle.std.specs.Result.{is_err}
 use Prim.Native.Nat.{ℕ}
 use mathlib.Core.Path.{◌≡◌, sym, ◌∙◌}
 use mathlib.Core.Bool.{Bool}
 use mathlib.Core.List.{List}
-use Rattle.sizes.specs.declared.Verdict.{Verdict}
-use Rattle.sizes.specs.Refusal.{refuses}
+use Rattle.rows.specs.Search.{outside}
+use Rattle.sizes.specs.declared.Fault.{Fault}
+use Rattle.sizes.specs.declared.Refusal.{Refusal}
+use Rattle.sizes.specs.Refusal.{Verdict, fault_number, refused_if}
 use Rattle.sizes.specs.Outcome.{Does}
 use Rattle.sizes.specs.Sizes.{sizes_verdict}
 use Rattle.sizes.proofs.Outcomes.{one_done}
 use Rattle.arrangement.specs.Check.{lent_verdict}
-use Rattle.flip.specs.Flip.{flip_verdict, flip_leaves}
+use Rattle.flip.specs.Flip.{flip_length_verdict, flip_verdict, flip_leaves}
 use Rattle.order.specs.Check.{start_verdict}
 use Rattle.unrank.specs.Unrank.{unrank_leaves}
 use Rattle.look.specs.Look.{next_leaves}
 use Rattle.board.specs.Board.{board_leaves}
 use Rattle.board.specs.Read.{Reads as ReadsBoard}
-use Rattle.board.specs.declared.read.Reading.{Reading}
 use Rattle.board.proofs.Readings.{one_reading}
 use Rattle.step.specs.Step.{lent_step_verdict}
 use Rattle.stretch.specs.Stretch.{stretch_verdict}
 use Rattle.stretch.specs.Pair.{pair_verdict}
 use Rattle.walk.specs.declared.hand.Walk.{Walk}
-use Rattle.walk.specs.declared.hand.Made.{Made}
-use Rattle.sizes.specs.declared.Told.{Told}
+use Rattle.walk.specs.declared.hand.Kept.{Kept}
 use Rattle.walk.specs.declared.hand.Moved.{Moved}
 use Rattle.walk.specs.Hand.{walk_verdict, walk_flip_verdict, makes, tells_rank, tells_flip, flips, moves_on}
 use Rattle.line.specs.Line.{Reads}
-use Rattle.line.specs.declared.Line.{Line}
+use Rattle.line.specs.declared.Numbers.{Numbers}
 use Rattle.line.proofs.Readings.{one_line}
 use Rattle.book.specs.Format.{format_one}
 use Rattle.book.specs.Read.{book_verdict, asked_verdict, lent_entry_verdict}
@@ -40,15 +42,28 @@ one_answer p q = p ∙ sym q
 
 -- ---- the checks
 
-pub one_refuses : (v : Verdict) {r s : Bool} → r ≡ refuses v → s ≡ refuses v → r ≡ s
+-- whether a verdict refuses is the library's `is_err` of it
+pub one_refuses : (v : Verdict) {r s : Bool} → r ≡ is_err v → s ≡ is_err v → r ≡ s
 one_refuses v p q = one_answer p q
 
+pub one_number_of : (fault : Fault) {r s : ℕ} → r ≡ fault_number fault → s ≡ fault_number fault → r ≡ s
+one_number_of fault p q = one_answer p q
+
+pub one_outside : (low high x : ℕ) {r s : Bool} → r ≡ outside low high x → s ≡ outside low high x → r ≡ s
+one_outside low high x p q = one_answer p q
+
 module _ {r s : Verdict} where
+  pub one_refused : (fault : Fault) (there : Bool) → r ≡ refused_if fault there → s ≡ refused_if fault there → r ≡ s
+  one_refused fault there p q = one_answer p q
+
   pub one_sizes : (n k : ℕ) → r ≡ sizes_verdict n k → s ≡ sizes_verdict n k → r ≡ s
   one_sizes n k p q = one_answer p q
 
   pub one_arrangement : (n k : ℕ) (ms ss : List ℕ) → r ≡ lent_verdict n k ms ss → s ≡ lent_verdict n k ms ss → r ≡ s
   one_arrangement n k ms ss p q = one_answer p q
+
+  pub one_length_check : (n j : ℕ) → r ≡ flip_length_verdict n j → s ≡ flip_length_verdict n j → r ≡ s
+  one_length_check n j p q = one_answer p q
 
   pub one_flip_check : (n k j : ℕ) (ms ss : List ℕ) → r ≡ flip_verdict n k j ms ss → s ≡ flip_verdict n k j ms ss → r ≡ s
   one_flip_check n k j ms ss p q = one_answer p q
@@ -85,48 +100,49 @@ module _ {r s : Verdict} where
 
 -- ---- a call that writes one buffer, of which a or b is the content at the end
 
-pub one_lent_book : (l : Lists) (buffer : List ℕ) {r s : Told} {a b : List ℕ} → (r ≡ write_tells l buffer) × (a ≡ write_leaves l buffer) → (s ≡ write_tells l buffer) × (b ≡ write_leaves l buffer) → (r ≡ s) × (a ≡ b)
+pub one_lent_book : (l : Lists) (buffer : List ℕ) {r s : Result ℕ Refusal} {a b : List ℕ} → (r ≡ write_tells l buffer) × (a ≡ write_leaves l buffer) → (s ≡ write_tells l buffer) × (b ≡ write_leaves l buffer) → (r ≡ s) × (a ≡ b)
 one_lent_book l buffer p q = (one_answer p.0 q.0, one_answer p.1 q.1)
 
 -- ---- calls that write two buffers, of which a and b, or c and d, are the contents at the end
 
-module _ {r s : Told} {a b c d : List ℕ} where
+module _ {r s : Verdict} {a b c d : List ℕ} where
   pub one_lent_flip : (n k j : ℕ) (ms ss : List ℕ) → Does (flip_leaves n k j ms ss) r a b → Does (flip_leaves n k j ms ss) s c d → (r ≡ s) × (a ≡ c) × (b ≡ d)
   one_lent_flip n k j ms ss p q = one_done p q
 
   pub one_lent_unrank : (n k rank : ℕ) (ms ss : List ℕ) → Does (unrank_leaves n k rank ms ss) r a b → Does (unrank_leaves n k rank ms ss) s c d → (r ≡ s) × (a ≡ c) × (b ≡ d)
   one_lent_unrank n k rank ms ss p q = one_done p q
 
-  pub one_lent_next : (n k : ℕ) (ms ss : List ℕ) → Does (next_leaves n k ms ss) r a b → Does (next_leaves n k ms ss) s c d → (r ≡ s) × (a ≡ c) × (b ≡ d)
-  one_lent_next n k ms ss p q = one_done p q
-
   pub one_lent_board : (n k rank : ℕ) (cs fs : List ℕ) → Does (board_leaves n k rank cs fs) r a b → Does (board_leaves n k rank cs fs) s c d → (r ≡ s) × (a ≡ c) × (b ≡ d)
   one_lent_board n k rank cs fs p q = one_done p q
+
+module _ {r s : Result ℕ Refusal} {a b c d : List ℕ} where
+  pub one_lent_next : (n k : ℕ) (ms ss : List ℕ) → Does (next_leaves n k ms ss) r a b → Does (next_leaves n k ms ss) s c d → (r ≡ s) × (a ≡ c) × (b ≡ d)
+  one_lent_next n k ms ss p q = one_done p q
 
   pub one_lent_reading : (book : List ℕ) (entry : ℕ) (ms ss : List ℕ) → Does (entry_leaves book entry ms ss) r a b → Does (entry_leaves book entry ms ss) s c d → (r ≡ s) × (a ≡ c) × (b ≡ d)
   one_lent_reading book entry ms ss p q = one_done p q
 
 -- ---- the walk in hand
 
-pub one_made : (n k rank : ℕ) {r s : Made} → r ≡ makes n k rank → s ≡ makes n k rank → r ≡ s
+pub one_made : (n k rank : ℕ) {r s : Result Walk Kept} → r ≡ makes n k rank → s ≡ makes n k rank → r ≡ s
 one_made n k rank p q = one_answer p q
 
-pub one_told_rank : (w : Walk) {r s : Told} → r ≡ tells_rank w → s ≡ tells_rank w → r ≡ s
+pub one_told_rank : (w : Walk) {r s : Result ℕ Refusal} → r ≡ tells_rank w → s ≡ tells_rank w → r ≡ s
 one_told_rank w p q = one_answer p q
 
-pub one_told_flip : (w : Walk) {r s : Told} → r ≡ tells_flip w → s ≡ tells_flip w → r ≡ s
+pub one_told_flip : (w : Walk) {r s : Result ℕ Refusal} → r ≡ tells_flip w → s ≡ tells_flip w → r ≡ s
 one_told_flip w p q = one_answer p q
 
-pub one_flipped : (w : Walk) (j : ℕ) {r s : Made} → r ≡ flips w j → s ≡ flips w j → r ≡ s
+pub one_flipped : (w : Walk) (j : ℕ) {r s : Result Walk Kept} → r ≡ flips w j → s ≡ flips w j → r ≡ s
 one_flipped w j p q = one_answer p q
 
-pub one_moved : (w : Walk) {r s : Moved} → r ≡ moves_on w → s ≡ moves_on w → r ≡ s
+pub one_moved : (w : Walk) {r s : Result Moved Kept} → r ≡ moves_on w → s ≡ moves_on w → r ≡ s
 one_moved w p q = one_answer p q
 
 -- ---- the relations
 
-pub one_board_reading : (n k : ℕ) (cs fs : List ℕ) (r s : Reading) → ReadsBoard n k cs fs r → ReadsBoard n k cs fs s → r ≡ s
+pub one_board_reading : (n k : ℕ) (cs fs : List ℕ) (r s : Result ℕ Refusal) → ReadsBoard n k cs fs r → ReadsBoard n k cs fs s → r ≡ s
 one_board_reading n k cs fs r s p q = one_reading n k cs fs r s p q
 
-pub one_input : (xs : List ℕ) (r s : Line) → Reads xs r → Reads xs s → r ≡ s
+pub one_input : (xs : List ℕ) (r s : Option Numbers) → Reads xs r → Reads xs s → r ≡ s
 one_input xs r s p q = one_line xs r s p q

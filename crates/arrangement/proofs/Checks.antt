@@ -12,9 +12,9 @@ use Rattle.rows.specs.Row.{at}
 use Rattle.rows.specs.Search.{outside, lowest}
 use Rattle.rows.proofs.Cases.{by_lt, above_range, in_range, inside}
 use Rattle.rows.proofs.Searches.{found, lowest_ext, lowest_le, none_holds}
-use Rattle.sizes.specs.declared.Verdict.{Verdict}
-use Rattle.sizes.specs.declared.Verdict.TheVariants.{Fine}
-use Rattle.sizes.specs.Refusal.{refused_at_lem}
+use Rattle.sizes.specs.declared.Fault.{Fault}
+use Rattle.sizes.specs.declared.Fault.TheVariants.{Module}
+use Rattle.sizes.specs.Refusal.{Verdict, fine, refused_at_lem}
 use Rattle.sizes.specs.Sizes.{most_slots}
 use Rattle.sizes.proofs.Refusals.{no_place}
 use Rattle.arrangement.specs.Check.{bad_module, repeated, bad_setting, Marked}
@@ -44,10 +44,10 @@ module _ (M : ℕ → ℕ) (i : ℕ) where
 -- ---- the places, as the code searches for them
 
 -- a search over a row of n slots that finds what the test of a check would, made a verdict
-pub searched : (number : ℕ) (test other : ℕ → Bool) {m n place : ℕ} {v : Verdict} → m ≡ n → v ≡ refused_at_lem number place → place ≡ lowest test m →
-    lowest test n ≡ lowest other n → v ≡ refused_at_lem number (lowest other n)
-searched number test other m_is v_is place_is same =
-    v_is ∙ ap (refused_at_lem number) (place_is ∙ ap (lowest test) m_is ∙ same)
+pub searched : (fault : Fault) (test other : ℕ → Bool) {m n place : ℕ} {v : Verdict} → m ≡ n → v ≡ refused_at_lem fault place → place ≡ lowest test m →
+    lowest test n ≡ lowest other n → v ≡ refused_at_lem fault (lowest other n)
+searched fault test other m_is v_is place_is same =
+    v_is ∙ ap (refused_at_lem fault) (place_is ∙ ap (lowest test) m_is ∙ same)
 
 -- the place is one of n slots
 pub place_le : (test : ℕ → Bool) {m n place : ℕ} → m ≡ n → place ≡ lowest test m → place ≤ n
@@ -66,10 +66,10 @@ setting_place n k S low =
     (λ l. above_range 0 (k - 1) (S i) (omega arith) (omega arith) ∙ sym (le-leb k (S i) l)))
 
 -- modules that 5 lets pass can be marked
-pub modules_marked : (n : ℕ) (ms : List ℕ) → n ≤ most_slots → length ms ≡ n → refused_at_lem 5 (lowest (bad_module n (at ms)) n) ≡ Fine → Marked ms
+pub modules_marked : (n : ℕ) (ms : List ℕ) → n ≤ most_slots → length ms ≡ n → fine ≡ refused_at_lem Module (lowest (bad_module n (at ms)) n) → Marked ms
 unfolding bad_module
-modules_marked n ms n_high same fine = record {
+modules_marked n ms n_high same passed = record {
   few = omega arith;
   low = λ i h.
-      let range = inside 1 n (at ms i) (none_holds (bad_module n (at ms)) n (no_place 5 _ fine) i (omega arith)) in omega (arith, range.1);
+      let range = inside 1 n (at ms i) (none_holds (bad_module n (at ms)) n (no_place Module _ (sym passed)) i (omega arith)) in omega (arith, range.1);
 }

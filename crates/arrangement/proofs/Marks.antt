@@ -2,7 +2,7 @@
 -- so what is counted is each slot whose module already stands in a lower one. Assumes nothing.
 use mathlib.Core.Path.{◌≡◌, refl, sym, ◌∙◌}
 use mathlib.Core.Bool.{cond}
-use Prim.Native.Nat.{ℕ, zero, suc, ◌+◌, ◌<◌, ◌≤◌}
+use Prim.Native.Nat.{ℕ, ◌+◌, ◌<◌, ◌≤◌}
 use native.Mathlib.Omega.{arith}
 use lib.Dec.{eqb, ltb}
 use lib.ListN.{set, get_or-replicate}
@@ -63,9 +63,3 @@ module _ (M : ℕ → ℕ) where
         none = λ z. same ∙ t.none (omega arith);
         no_more = λ z. omega (arith, t.no_more (sym same ∙ z));
       })
-
-  -- in the end the count tells
-  pub tally_told : (n twice : ℕ) → Tally n twice → eqb twice 0 ≡ eqb (lowest (repeated M) n) 0
-  tally_told n zero t = sym (eq-eqb (lowest (repeated M) n) 0 (t.none refl))
-  tally_told n (suc twice) t =
-      ne_eqb (suc twice) 0 (λ z. absurd (omega arith)) ∙ sym (ne_eqb (lowest (repeated M) n) 0 (λ z. let no = t.no_more z in absurd (omega arith)))

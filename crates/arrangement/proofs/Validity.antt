@@ -1,4 +1,4 @@
--- A Fine verdict says that the arrangement is valid, and a valid arrangement has a Fine verdict: each of the three searches
+-- A fine verdict says that the arrangement is valid, and a valid arrangement has a fine verdict: each of the three searches
 -- finds nothing exactly where its test holds at no slot. Home is valid at every size. Assumes nothing.
 use mathlib.Core.Path.{◌≡◌, sym, ◌∙◌}
 use mathlib.Core.List.{List}
@@ -11,8 +11,8 @@ use Rattle.rows.specs.Row.{at}
 use Rattle.rows.specs.Search.{lowest}
 use Rattle.rows.proofs.Cases.{by_lt, in_range, inside}
 use Rattle.rows.proofs.Searches.{none_holds, holds_nowhere, lowest_ext, lowest_le}
-use Rattle.sizes.specs.declared.Verdict.TheVariants.{Fine}
-use Rattle.sizes.specs.Refusal.{first, refused_at_lem}
+use Rattle.sizes.specs.declared.Fault.TheVariants.{Length, Module, Repeat, Setting}
+use Rattle.sizes.specs.Refusal.{fine, first, refused_at_lem}
 use Rattle.sizes.specs.Sizes.{Permitted, sizes_verdict, most_slots}
 use Rattle.sizes.proofs.Refusals.{both_fine, no_fault, no_place, faultless, last_faultless, Small, small_first, small_if, small_at}
 use Rattle.sizes.proofs.Weights.{permitted, not_refused, small_sizes}
@@ -31,23 +31,23 @@ module _ (n k : ℕ) (M S : ℕ → ℕ) where
       let zero_is : lowest (λ g. eqb (M g) (M i)) i ≡ 0 = omega arith in
       eqb-false (M h) (M i) (none_holds (λ g. eqb (M g) (M i)) i zero_is h l) e
 
-  pub valid : slots_verdict n k M S ≡ Fine → Valid n k M S
+  pub valid : slots_verdict n k M S ≡ fine → Valid n k M S
   unfolding slots_verdict bad_module bad_setting
   valid e =
-      let rest = both_fine (refused_at_lem 5 (lowest (bad_module n M) n)) _ e in
-      let last = both_fine (refused_at_lem 6 (lowest (repeated M) n)) _ rest.1 in
-      let six = no_place 6 _ last.0 in
+      let rest = both_fine (refused_at_lem Module (lowest (bad_module n M) n)) _ e in
+      let last = both_fine (refused_at_lem Repeat (lowest (repeated M) n)) _ rest.1 in
+      let six = no_place Repeat _ last.0 in
       record {
         cell = λ i h.
-            let module_in_lem = inside 1 n (M i) (none_holds (bad_module n M) n (no_place 5 _ rest.0) i h) in
-            let setting_in_lem = leb-false k (S i) (none_holds (bad_setting k S) n (no_place 7 _ last.1) i h) in
+            let module_in_lem = inside 1 n (M i) (none_holds (bad_module n M) n (no_place Module _ rest.0) i h) in
+            let setting_in_lem = leb-false k (S i) (none_holds (bad_setting k S) n (no_place Setting _ last.1) i h) in
             record { low = module_in_lem.0; high = module_in_lem.1; setting = setting_in_lem };
         once = λ i j hi hj same.
             by_lt i j (λ l. absurd (apart six i j l hj same))
             (λ g. by_lt j i (λ l. absurd (apart six j i l hi (sym same))) (λ l. omega arith));
       }
 
-  pub valid_fine : Valid n k M S → Fine ≡ slots_verdict n k M S
+  pub valid_fine : Valid n k M S → fine ≡ slots_verdict n k M S
   unfolding slots_verdict refused_at_lem first bad_module bad_setting
   valid_fine v =
       rw (
@@ -83,11 +83,11 @@ pub record Fit (n k : ℕ) (xs : List ℕ) (more : ℕ) (ys : List ℕ) : Type 0
   pub two : length ys ≡ n + more
 
 -- a buffer that is not refused has its length
-pub has_length : (n : ℕ) (xs : List ℕ) → length_verdict n xs ≡ Fine → length xs ≡ n
+pub has_length : (n : ℕ) (xs : List ℕ) → length_verdict n xs ≡ fine → length xs ≡ n
 unfolding length_verdict
-has_length n xs e = eqb-true (length xs) n (not-false _ (no_fault 4 _ e))
+has_length n xs e = eqb-true (length xs) n (not-false _ (no_fault Length _ e))
 
-pub fit : (n k : ℕ) (xs : List ℕ) (more : ℕ) (ys : List ℕ) → buffers_verdict n k xs more ys ≡ Fine → Fit n k xs more ys
+pub fit : (n k : ℕ) (xs : List ℕ) (more : ℕ) (ys : List ℕ) → buffers_verdict n k xs more ys ≡ fine → Fit n k xs more ys
 unfolding buffers_verdict
 fit n k xs more ys e =
     let lengths = both_fine (sizes_verdict n k) _ e in
@@ -95,10 +95,10 @@ fit n k xs more ys e =
     record { sizes = permitted n k lengths.0; one = has_length n xs both.0; two = has_length (n + more) ys both.1 }
 
 -- and where all that holds, nothing is refused
-pub fit_fine : (n k : ℕ) (xs : List ℕ) (more : ℕ) (ys : List ℕ) → Fit n k xs more ys → Fine ≡ buffers_verdict n k xs more ys
+pub fit_fine : (n k : ℕ) (xs : List ℕ) (more : ℕ) (ys : List ℕ) → Fit n k xs more ys → fine ≡ buffers_verdict n k xs more ys
 unfolding buffers_verdict length_verdict first
 fit_fine n k xs more ys f =
-    rw (← not_refused n k f.sizes) (faultless 4 (right_length _ _ f.one) (last_faultless 4 (right_length _ _ f.two)))
+    rw (← not_refused n k f.sizes) (faultless Length (right_length _ _ f.one) (last_faultless Length (right_length _ _ f.two)))
 
 -- ---- an arrangement in two lent buffers
 
@@ -108,7 +108,7 @@ pub record Accepted (n k : ℕ) (ms ss : List ℕ) : Type 0 where
   pub settings : length ss ≡ n
   pub valid_is : Valid n k (at ms) (at ss)
 
-pub accepted : (n k : ℕ) (ms ss : List ℕ) → lent_verdict n k ms ss ≡ Fine → Accepted n k ms ss
+pub accepted : (n k : ℕ) (ms ss : List ℕ) → lent_verdict n k ms ss ≡ fine → Accepted n k ms ss
 unfolding lent_verdict
 accepted n k ms ss e =
     let both = both_fine (buffers_verdict n k ms 0 ss) _ e in
@@ -116,7 +116,7 @@ accepted n k ms ss e =
     record { sizes = lent.sizes; modules = lent.one; settings = omega arith; valid_is = valid n k (at ms) (at ss) both.1 }
 
 -- and where all that holds, nothing is refused
-pub accepted_fine : (n k : ℕ) (ms ss : List ℕ) → Accepted n k ms ss → Fine ≡ lent_verdict n k ms ss
+pub accepted_fine : (n k : ℕ) (ms ss : List ℕ) → Accepted n k ms ss → fine ≡ lent_verdict n k ms ss
 unfolding lent_verdict first
 accepted_fine n k ms ss a =
     rw (← fit_fine n k ms 0 ss (record { sizes = a.sizes; one = a.modules; two = omega (arith, a.settings) }))
@@ -136,17 +136,17 @@ home_valid n k h = record {
 pub small_slots : (n k : ℕ) (M S : ℕ → ℕ) → n ≤ most_slots → Small (slots_verdict n k M S)
 unfolding slots_verdict
 small_slots n k M S h =
-    small_first _ _ (small_at 5 _ (omega arith) (omega (arith, lowest_le (bad_module n M) n)))
-    (λ fine. small_first _ _ (small_at 6 _ (omega arith) (omega (arith, lowest_le (repeated M) n)))
-    (λ fine. small_at 7 _ (omega arith) (omega (arith, lowest_le (bad_setting k S) n))))
+    small_first _ _ (small_at Module _ (omega (arith, lowest_le (bad_module n M) n)))
+    (λ passed. small_first _ _ (small_at Repeat _ (omega (arith, lowest_le (repeated M) n)))
+    (λ passed. small_at Setting _ (omega (arith, lowest_le (bad_setting k S) n))))
 
 pub small_buffers : (n k : ℕ) (xs : List ℕ) (more : ℕ) (ys : List ℕ) → Small (buffers_verdict n k xs more ys)
 unfolding buffers_verdict length_verdict
 small_buffers n k xs more ys =
-    small_first _ _ (small_sizes n k) (λ fine. small_first _ _ (small_if 4 _ (omega arith)) (λ fine. small_if 4 _ (omega arith)))
+    small_first _ _ (small_sizes n k) (λ passed. small_first _ _ (small_if Length _) (λ passed. small_if Length _))
 
 pub small_lent : (n k : ℕ) (ms ss : List ℕ) → Small (lent_verdict n k ms ss)
 unfolding lent_verdict
 small_lent n k ms ss =
     small_first _ _ (small_buffers n k ms 0 ss)
-    (λ fine. small_slots n k (at ms) (at ss) (fit n k ms 0 ss fine).sizes.n_high)
+    (λ passed. small_slots n k (at ms) (at ss) (fit n k ms 0 ss passed).sizes.n_high)

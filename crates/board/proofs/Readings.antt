@@ -4,24 +4,26 @@
 use mathlib.Core.Path.{◌≡◌, refl, sym, ap, ◌∙◌}
 use mathlib.Core.Bool.{Bool, true, false, not}
 use mathlib.Core.Logic.{◌≢◌}
-use mathlib.Core.List.{List}
+use mathlib.Core.List.{List, ◌++◌}
 use Prim.Native.Nat.{ℕ, zero, suc, ◌+◌, ◌-◌, ◌*◌, ◌≤◌, ◌<◌}
 use native.Mathlib.Nat.{le_refl, mul-pos}
 use native.Mathlib.Numerals.{add-one}
 use native.Mathlib.Omega.{arith}
-use lib.Dec.{eqb}
-use lib.ListN.{length, set}
-use lib.Seq.{ext_get_or}
-use borrow.Author.Tests.{eqb-true, eq-eqb, not-false}
+use lib.ListN.{length, set, take, drop}
+use lib.Seq.{take-append_seam}
+use borrow.Author.Tests.{eqb-true, not-false}
+use Rattle.std.proofs.lemmas.Bool.{not-true}
+use Rattle.std.proofs.lemmas.Slice.Eq.{bytes_eq-Decides}
+use Rattle.std.specs.Str.{bytes_eq}
 use Rattle.rows.specs.Row.{at, row, front}
-use Rattle.rows.specs.Search.{if_lt, lowest}
+use Rattle.rows.specs.Search.{if_lt}
 use Rattle.rows.proofs.Cases.{by_lt, by_eq, by_test, opposite, if_lt_lem, if_ge, if_le}
-use Rattle.rows.proofs.Rows.{length_row, at_row, read, begun, stored}
-use Rattle.rows.proofs.Searches.{none_holds, holds_nowhere}
-use Rattle.sizes.specs.declared.Verdict.{Verdict}
-use Rattle.sizes.specs.declared.Verdict.TheVariants.{Fine, Refused}
-use Rattle.sizes.specs.Refusal.{first, number_of, place_of}
-use Rattle.sizes.proofs.Refusals.{Small, small_first}
+use Rattle.rows.proofs.Rows.{length_row, begun, stored}
+use Rattle.std.proofs.Common.{Err, Ok, Result}
+use Rattle.sizes.specs.declared.Fault.TheVariants.{Board}
+use Rattle.sizes.specs.declared.Refusal.{Refusal}
+use Rattle.sizes.specs.Refusal.{fine, first, refused_if, number_of, place_of}
+use Rattle.sizes.proofs.Refusals.{number_low, Small, small_first}
 use Rattle.sizes.specs.Sizes.{weight, Permitted, most_arrangements}
 use Rattle.sizes.proofs.Weights.{weight_zero, weight_mono, one_more}
 use Rattle.rows.specs.Copy.{blank}
@@ -32,8 +34,6 @@ use Rattle.order.proofs.Digits.{digit_lt, rank_of_digits, of_digits_lt, digit_of
 use Rattle.board.specs.Board.{place, lowest_digit_lem, full, counter, run_end_lem, pointer, counters, pointers, IsBoard}
 use Rattle.board.specs.Asked.{LentBoard, DigitsAsked}
 use Rattle.board.specs.Read.{NoBoard, Reads, verdict_of, end_read, digit_read}
-use Rattle.board.specs.declared.read.Reading.{Reading}
-use Rattle.board.specs.declared.read.Reading.TheVariants.{Rank, Unread}
 use Rattle.board.proofs.Runs.{lowest_one, lowest_more, lowest_range, full_below, full_here, counter_below, counter_open, run_stops, run_range, pointer_plain, pointer_inside, pointer_behind, counter_place, pointer_place, counters_long, pointers_long, counters_ext, pointers_ext}
 use Rattle.board.proofs.Writing.{run_goes_on, digit_at, is_board}
 
@@ -159,21 +159,18 @@ module _ {n k : ℕ} {cs fs ds : List ℕ} (off : ReadOff n k cs fs ds) where
   each_read = digit_at (digit_read k cs fs) off.read_is
 
   pub digits_asked : DigitsAsked n k ds
-  digits_asked = record {
-    sizes = off.lent.sizes;
-    each = λ j a l. omega (arith, each_read j a l, read_range k cs fs j off.lent.sizes.k_low a);
-  }
+  digits_asked = record { each = λ j a l. omega (arith, each_read j a l, read_range k cs fs j off.lent.sizes.k_low a) }
 
-  fine : buffers_verdict n k cs 1 fs ≡ Fine
-  fine = sym (fit_fine n k cs 1 fs (record { sizes = off.lent.sizes; one = off.lent.counters; two = off.lent.pointers ∙ sym (add-one n) }))
+  fits : buffers_verdict n k cs 1 fs ≡ fine
+  fits = sym (fit_fine n k cs 1 fs (record { sizes = off.lent.sizes; one = off.lent.counters; two = off.lent.pointers ∙ sym (add-one n) }))
 
   -- their board is the one that was lent: it is that of the rank for which they stand
-  pub board_found : {r : ℕ} → cs ≡ counters n k (place ds) → fs ≡ pointers n k (place ds) → r ≡ of_digits n k (place ds) → Reads n k cs fs (Rank r)
+  pub board_found : {r : ℕ} → cs ≡ counters n k (place ds) → fs ≡ pointers n k (place ds) → r ≡ of_digits n k (place ds) → Reads n k cs fs (Ok r)
   unfolding Reads
   board_found {r} cs_are fs_are r_is =
       let k_low = off.lent.sizes.k_low in
       let each = digits_asked.each in (
-        fine,
+        fits,
         rw r_is (of_digits_lt k k_low (place ds) n each),
         is_board (λ j a l. sym (ap (λ q. digit k q j) r_is ∙ digit_of_digits k k_low (place ds) n each j a l)) cs_are fs_are,
       )
@@ -182,27 +179,28 @@ module _ {n k : ℕ} {cs fs ds : List ℕ} (off : ReadOff n k cs fs ds) where
   same_digits : {r : ℕ} → IsBoard n k r cs fs → (j : ℕ) → 1 ≤ j → j ≤ n → digit k r j ≡ place ds j
   same_digits board j a l = sym (each_read j a l ∙ rank_read_lem off.lent.sizes.k_low board j a l)
 
-  unread : NoBoard n k cs fs → Reads n k cs fs (Unread 10 0)
-  unfolding Reads first
-  unread none = (rw fine, λ _. none)
+  unread : {differs : Bool} {refusal : Refusal} → Err refusal ≡ refused_if Board differs → (differs ≡ true → NoBoard n k cs fs) → Reads n k cs fs (Err refusal)
+  unfolding Reads first refused_if
+  unread {differs = true} e none = rw fits (e, λ _. none refl)
+  unread {differs = false} e none = absurd (let y : ◌≡◌ {A = ℕ} 0 1 = cc in omega arith)
 
-  pub counters_differ : cs ≢ counters n k (place ds) → Reads n k cs fs (Unread 10 0)
-  counters_differ ne = unread (record { none = λ r l board. ne (board.counters_are ∙ counters_ext n k (digit k r) (place ds) (same_digits board)) })
+  module _ {differs : Bool} {refusal : Refusal} (e : Err refusal ≡ refused_if Board differs) where
+    pub counters_differ : (differs ≡ true → cs ≢ counters n k (place ds)) → Reads n k cs fs (Err refusal)
+    counters_differ ne = unread e (λ t. record { none = λ r l board. ne t (board.counters_are ∙ counters_ext n k (digit k r) (place ds) (same_digits board)) })
 
-  pub pointers_differ : fs ≢ pointers n k (place ds) → Reads n k cs fs (Unread 10 0)
-  pointers_differ ne = unread (record { none = λ r l board. ne (board.pointers_are ∙ pointers_ext n k (digit k r) (place ds) (same_digits board)) })
+    pub pointers_differ : (differs ≡ true → fs ≢ pointers n k (place ds)) → Reads n k cs fs (Err refusal)
+    pointers_differ ne = unread e (λ t. record { none = λ r l board. ne t (board.pointers_are ∙ pointers_ext n k (digit k r) (place ds) (same_digits board)) })
 
 -- buffers that are refused are not read
-pub buffers_refused : (n k : ℕ) (cs fs : List ℕ) {v : Verdict} (number place : ℕ) → v ≡ buffers_verdict n k cs 1 fs → v ≡ Refused number place → Reads n k cs fs (Unread number place)
+pub buffers_refused : (n k : ℕ) (cs fs : List ℕ) {refusal : Refusal} → Err refusal ≡ buffers_verdict n k cs 1 fs → Reads n k cs fs (Err refusal)
 unfolding Reads first
-buffers_refused n k cs fs number place v_is refused =
-    let e : buffers_verdict n k cs 1 fs ≡ Refused number place = sym v_is ∙ refused in
-    (rw e, λ fine. let z : Refused number place ≡ Fine = sym e ∙ fine in let y : ◌≡◌ {A = ℕ} 0 1 = cc in absurd (omega arith))
+buffers_refused n k cs fs {refusal} e =
+    (rw (← e), λ fits. let z : Err refusal ≡ fine = e ∙ fits in let y : ◌≡◌ {A = ℕ} 0 1 = cc in absurd (omega arith))
 
 -- ---- one reading
 
 -- the board of a rank is read as that rank
-pub board_read : {n k r : ℕ} {cs fs : List ℕ} → Permitted n k → r < weight n k → IsBoard n k r cs fs → Reads n k cs fs (Rank r)
+pub board_read : {n k r : ℕ} {cs fs : List ℕ} → Permitted n k → r < weight n k → IsBoard n k r cs fs → Reads n k cs fs (Ok r)
 unfolding Reads
 board_read {n} {k} {r} {cs} {fs} sizes r_low board = (
   sym (fit_fine n k cs 1 fs (record {
@@ -215,29 +213,24 @@ board_read {n} {k} {r} {cs} {fs} sizes r_low board = (
 )
 
 -- what is read is right, and it is the only answer
-pub one_reading : (n k : ℕ) (cs fs : List ℕ) (v w : Reading) → Reads n k cs fs v → Reads n k cs fs w → v ≡ w
+pub one_reading : (n k : ℕ) (cs fs : List ℕ) (v w : Result ℕ Refusal) → Reads n k cs fs v → Reads n k cs fs w → v ≡ w
 unfolding Reads
-one_reading n k cs fs (Rank r) (Rank q) a b =
-    ap (λ r. Rank r) (one_board (fit n k cs 1 fs a.0).sizes.k_low a.1 b.1 a.2 b.2)
-one_reading n k cs fs (Rank r) (Unread number place) a b = absurd ((b.1 a.0).none r a.1 a.2)
-one_reading n k cs fs (Unread number place) (Rank r) a b = absurd ((a.1 b.0).none r b.1 b.2)
-one_reading n k cs fs (Unread number place) (Unread number' place') a b = ap (λ v. unread_of v) (a.0 ∙ sym b.0)
-  where
-    unread_of : Verdict → Reading
-    unread_of Fine = Unread 0 0
-    unread_of (Refused number place) = Unread number place
+one_reading n k cs fs (Ok r) (Ok q) a b =
+    ap (λ r. Ok r) (one_board (fit n k cs 1 fs a.0).sizes.k_low a.1 b.1 a.2 b.2)
+one_reading n k cs fs (Ok r) (Err refusal) a b = absurd ((b.1 a.0).none r a.1 a.2)
+one_reading n k cs fs (Err refusal) (Ok r) a b = absurd ((a.1 b.0).none r b.1 b.2)
+one_reading n k cs fs (Err refusal) (Err refusal') a b = let same = a.0 ∙ sym b.0 in cc
 
 -- ---- a loop that reads the digits off
 
 -- those of the first i places are read, and e is the end that their pointers say
 pub record ReadingOff (n k : ℕ) (cs fs ds : List ℕ) (e i : ℕ) : Type 0 where
-  pub high : i ≤ n
   pub end_is : e ≡ end_read fs i
   pub read_is : ds ≡ front (λ i. digit_read k cs fs (suc i)) i blank
 
 pub reading_first : {n k : ℕ} {cs fs : List ℕ} → ReadingOff n k cs fs blank 0 0
 unfolding end_read
-reading_first = record { high = omega arith; end_is = refl; read_is = begun _ blank }
+reading_first = record { end_is = refl; read_is = begun _ blank }
 
 pub reading_on : {n k : ℕ} {cs fs ds : List ℕ} {e x i f : ℕ} → Permitted n k → ReadingOff n k cs fs ds e i → i < n →
     x ≡ if_lt (i + 1) (at fs i) (at fs i) e → f ≡ if_lt (i + 1) x (k * (i + 1) - 1) (if_lt (k * (i + 1) - 1) (at cs i) 0 (at cs i)) →
@@ -247,7 +240,6 @@ reading_on {k} {cs} {fs} {x} {i} sizes done l x_is f_is =
     let there : suc i - 1 ≡ i = omega arith in
     let ends : x ≡ end_read fs (suc i) = (rw add-one at x_is) ∙ ap (if_lt (suc i) (at fs i) (at fs i)) done.end_is in
     record {
-      high = omega arith;
       end_is = ends ∙ rw add-one;
       read_is = stored _ i blank done.read_is (omega (arith, sizes.n_high)) ((rw add-one at f_is) ∙ rw (ends, there));
     }
@@ -256,15 +248,14 @@ reading_on {k} {cs} {fs} {x} {i} sizes done l x_is f_is =
 
 -- of the first i digits
 pub record Ranking (n k : ℕ) (ds : List ℕ) (r w i : ℕ) : Type 0 where
-  pub high : i ≤ n
   pub rank_is : r ≡ of_digits i k (place ds)
   pub weight_is : w ≡ weight i k
 
 pub ranking_first : {n k : ℕ} {ds : List ℕ} → Ranking n k ds 0 1 0
 unfolding of_digits
-ranking_first {k} = record { high = omega arith; rank_is = refl; weight_is = sym (weight_zero k) }
+ranking_first {k} = record { rank_is = refl; weight_is = sym (weight_zero k) }
 
-module _ {n k : ℕ} {ds : List ℕ} {r w i : ℕ} (asked : DigitsAsked n k ds) (done : Ranking n k ds r w i) (l : i < n) where
+module _ {n k : ℕ} {ds : List ℕ} {r w i : ℕ} (sizes : Permitted n k) (asked : DigitsAsked n k ds) (done : Ranking n k ds r w i) (l : i < n) where
   next_digit : at ds i ≡ place ds (suc i)
   next_digit = ap (at ds) (omega arith)
 
@@ -275,48 +266,42 @@ module _ {n k : ℕ} {ds : List ℕ} {r w i : ℕ} (asked : DigitsAsked n k ds) 
   -- no product and no sum wraps
   pub rank_fits : (at ds i * w ≤ most_arrangements) × (r + at ds i * w ≤ most_arrangements)
   rank_fits =
-      let sizes = asked.sizes in
       let below = of_digits_lt k sizes.k_low (place ds) (suc i) (λ j a b. asked.each j a (omega arith)) in
       omega (arith, ranked, weight_mono (suc i) n k sizes.k_low l, sizes.few)
 
   pub ranking_on : Ranking n k ds (r + at ds i * w) (w * (k * (i + 1))) (i + 1)
-  ranking_on = record { high = omega arith; rank_is = ranked ∙ rw add-one; weight_is = one_more i k done.weight_is }
+  ranking_on = record { rank_is = ranked ∙ rw add-one; weight_is = one_more i k done.weight_is }
 
 -- ---- a row held to another
 
-module _ (f : ℕ → ℕ) (n : ℕ) {made xs : List ℕ} {b : Bool} (made_is : made ≡ front f n blank) (same : length xs ≡ n)
-    (told : b ≡ eqb (lowest (λ i. not (eqb (at xs i) (at made i))) n) 0) where
-  pub holds_all : b ≡ true → xs ≡ row f n
-  holds_all t =
-      ext_get_or 0 xs (row f n) (same ∙ sym (length_row f n))
-      (λ i l. let h : i < n = omega arith in
-      eqb-true (at xs i) (at made i) (not-false _ (none_holds (λ i. not (eqb (at xs i) (at made i))) n (eqb-true _ 0 (sym told ∙ t)) i h)) ∙
-      read f n blank i made_is h ∙ sym (at_row f n i h))
+made_there : (f : ℕ → ℕ) (n : ℕ) {made : List ℕ} → made ≡ front f n blank → take n made ≡ row f n
+unfolding front
+made_there f n made_is = rw made_is (ap (λ m. take m (row f n ++ drop n blank)) (sym (length_row f n)) ∙ take-append_seam (row f n) (drop n blank))
 
-  pub holds_not : b ≡ false → xs ≢ row f n
-  holds_not not_so e =
-      opposite
-      (told ∙ eq-eqb _ 0 (holds_nowhere (λ i. not (eqb (at xs i) (at made i))) n
-      (λ i h. rw (eq-eqb (at xs i) (at made i) (ap (λ ys. at ys i) e ∙ at_row f n i h ∙ sym (read f n blank i made_is h))))))
-      not_so
+module _ (f : ℕ → ℕ) (n : ℕ) {made xs : List ℕ} {differs : Bool} (made_is : made ≡ front f n blank) (told : differs ≡ not (bytes_eq (take n made) xs)) where
+  row_held : differs ≡ false → xs ≡ row f n
+  row_held f_is = sym ((bytes_eq-Decides _ _).0 (not-false _ (sym told ∙ f_is))) ∙ made_there f n made_is
+
+  row_differs : differs ≡ true → xs ≢ row f n
+  row_differs t e = opposite ((bytes_eq-Decides _ _).1 (made_there f n made_is ∙ sym e)) (not-true _ (sym told ∙ t))
 
 -- the counters, and the pointers, of digits
-module _ (n k : ℕ) (d : ℕ → ℕ) {made xs : List ℕ} {b : Bool} where
-  pub counters_held : made ≡ front (λ i. counter k d (suc i)) n blank → length xs ≡ n → b ≡ eqb (lowest (λ i. not (eqb (at xs i) (at made i))) n) 0 →
-      (b ≡ true → xs ≡ counters n k d) × (b ≡ false → xs ≢ counters n k d)
+module _ (n k : ℕ) (d : ℕ → ℕ) {made xs : List ℕ} {differs : Bool} where
+  pub counters_held : made ≡ front (λ i. counter k d (suc i)) n blank → differs ≡ not (bytes_eq (take n made) xs) →
+      (differs ≡ false → xs ≡ counters n k d) × (differs ≡ true → xs ≢ counters n k d)
   unfolding counters
-  counters_held made_is same told = (holds_all _ n made_is same told, holds_not _ n made_is same told)
+  counters_held made_is told = (row_held _ n made_is told, row_differs _ n made_is told)
 
-  pub pointers_held : made ≡ front (λ i. pointer n k d (suc i)) (suc n) blank → length xs ≡ suc n → b ≡ eqb (lowest (λ i. not (eqb (at xs i) (at made i))) (n + 1)) 0 →
-      (b ≡ true → xs ≡ pointers n k d) × (b ≡ false → xs ≢ pointers n k d)
+  pub pointers_held : made ≡ front (λ i. pointer n k d (suc i)) (suc n) blank → differs ≡ not (bytes_eq (take (n + 1) made) xs) →
+      (differs ≡ false → xs ≡ pointers n k d) × (differs ≡ true → xs ≢ pointers n k d)
   unfolding pointers
-  pointers_held made_is same told =
-      let told' = rw add-one at told in (holds_all _ (suc n) made_is same told', holds_not _ (suc n) made_is same told')
+  pointers_held made_is told =
+      let told' = rw add-one at told in (row_held _ (suc n) made_is told', row_differs _ (suc n) made_is told')
 
 -- ---- the number and place of a reading fit a byte each
 
-pub small_reading : (n k : ℕ) (cs fs : List ℕ) (w : Reading) → Reads n k cs fs w → Small (verdict_of w)
+pub small_reading : (n k : ℕ) (cs fs : List ℕ) (w : Result ℕ Refusal) → Reads n k cs fs w → Small (verdict_of w)
 unfolding Reads verdict_of number_of place_of
-small_reading n k cs fs (Rank r) reads = record { number = omega arith; place = omega arith }
-small_reading n k cs fs (Unread number place) reads =
-    rw reads.0 (small_first _ _ (small_buffers n k cs 1 fs) (λ fine. record { number = omega arith; place = omega arith }))
+small_reading n k cs fs (Ok r) reads = record { number = omega arith; place = omega arith }
+small_reading n k cs fs (Err refusal) reads =
+    rw reads.0 (small_first _ _ (small_buffers n k cs 1 fs) (λ fits. record { number = number_low Board; place = omega arith }))

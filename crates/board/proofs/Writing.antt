@@ -4,20 +4,19 @@ use mathlib.Core.Path.{◌≡◌, refl, sym, ap, ◌∙◌}
 use mathlib.Core.Bool.{Bool, true, false, cond}
 use mathlib.Core.List.{List}
 use Prim.Native.Nat.{ℕ, suc, ◌+◌, ◌-◌, ◌*◌, ◌/◌, ◌%◌, ◌≤◌, ◌<◌}
-use native.Mathlib.Nat.{div-one, mod-lt, div-div-eq-div-mul, mul_comm, mul-pos, mul-le-mul}
+use native.Mathlib.Nat.{div-one, div-div-eq-div-mul, mul_comm}
 use native.Mathlib.Numerals.{add-one}
 use native.Mathlib.Omega.{arith}
-use lib.Dec.{eqb}
 use lib.ListN.{length, set}
 use Rattle.rows.specs.Row.{at, front}
 use Rattle.rows.proofs.Cases.{by_test, opposite}
 use Rattle.rows.proofs.Rows.{read, begun, stored, written_over}
-use Rattle.sizes.specs.Sizes.{weight, Permitted, most_slots, most_settings}
+use Rattle.sizes.specs.Sizes.{weight, Permitted}
 use Rattle.sizes.proofs.Weights.{weight_zero, weight_suc}
 use Rattle.rows.specs.Copy.{blank}
 use Rattle.order.specs.Digits.{digit}
-use Rattle.board.specs.Board.{place, lowest_digit_lem, full, counter, run_end_lem, pointer, counters, pointers, IsBoard}
-use Rattle.board.proofs.Runs.{back, lowest_range, full_below, full_here, full_ext, counter_below, counter_full, counter_open, counter_ext, run_stops, run_goes, pointer_inside, pointer_behind, counters_ext, pointers_ext}
+use Rattle.board.specs.Board.{place, full, counter, run_end_lem, pointer, counters, pointers, IsBoard}
+use Rattle.board.proofs.Runs.{back, lowest_range, full_below, full_ext, counter_ext, run_stops, run_goes, pointer_inside, pointer_behind, counters_ext, pointers_ext}
 
 -- ---- digits taken off
 
@@ -35,61 +34,13 @@ module _ (k r i : ℕ) {above : ℕ} (above_is : above ≡ r / weight i k) where
   above_taken =
       rw (add-one, above_is) (div-div-eq-div-mul r (weight i k) (k * suc i) ∙ ap (λ x. r / x) (mul_comm (weight i k) (k * suc i) ∙ sym (weight_suc i k)))
 
--- the sizes of the number by which digit j is taken off, and of the digit
-pub record TakenFits (base above : ℕ) : Type 0 where
-  pub base_pos : 1 ≤ base
-  pub base_small : base ≤ most_settings * suc most_slots
-  pub digit_small : above % base < most_settings * suc most_slots
-
-pub taken_fits : {k j : ℕ} (above : ℕ) → 1 ≤ k → k ≤ most_settings → 1 ≤ j → j ≤ suc most_slots → TakenFits (k * j) above
-taken_fits {k} {j} above k_low k_high j_low j_high =
-    let small : k * j ≤ most_settings * suc most_slots = mul-le-mul k_high j_high in
-    record { base_pos = mul-pos k_low j_low; base_small = small; digit_small = omega (arith, mod-lt above (mul-pos k_low j_low)) }
-
--- the same of the next digit in a loop
-pub next_fits : {n k : ℕ} → Permitted n k → (i above : ℕ) → i < n → TakenFits (k * (i + 1)) above
-next_fits sizes i above l = taken_fits above sizes.k_low sizes.k_high (omega arith) (omega (arith, sizes.n_high))
-
--- ---- one digit, by the tests of the code
-
-module _ (k j : ℕ) (x : ℕ) {s : ℕ} (s_is : s ≡ lowest_digit_lem k) where
-  pub not_full_below : j < s → false ≡ full k (λ _. x) j
-  not_full_below l = sym (full_below k (λ _. x) j (omega (arith, s_is)))
-
-  pub full_from : s ≤ j → eqb x (k * j - 1) ≡ full k (λ _. x) j
-  full_from l = sym (full_here k (λ _. x) j (omega (arith, s_is)))
-
-  pub none_counted : j < s → 0 ≡ counter k (λ _. x) j
-  none_counted l = sym (counter_below k (λ _. x) j (omega (arith, s_is)))
-
-  pub full_counted : {b : Bool} → b ≡ full k (λ _. x) j → b ≡ true → 0 ≡ counter k (λ _. x) j
-  full_counted told t = sym (counter_full k (λ _. x) j (sym told ∙ t))
-
-  pub open_counted : {b : Bool} → s ≤ j → b ≡ full k (λ _. x) j → b ≡ false → x ≡ counter k (λ _. x) j
-  open_counted l told f = sym (counter_open k (λ _. x) j (omega (arith, s_is)) (sym told ∙ f))
-
 -- digit i + 1 of a row
 module _ (k : ℕ) (ds : List ℕ) (i : ℕ) where
   full_at : full k (λ _. at ds i) (i + 1) ≡ full k (place ds) (suc i)
   full_at = rw add-one (full_ext k (λ _. at ds i) (place ds) (suc i) (ap (at ds) (omega arith)))
 
-  counter_at : counter k (λ _. at ds i) (i + 1) ≡ counter k (place ds) (suc i)
+  pub counter_at : counter k (λ _. at ds i) (i + 1) ≡ counter k (place ds) (suc i)
   counter_at = rw add-one (counter_ext k (λ _. at ds i) (place ds) (suc i) (ap (at ds) (omega arith)))
-
--- ---- the counters
-
--- the first i counters are made
-pub record Counting (n k : ℕ) (ds made : List ℕ) (i : ℕ) : Type 0 where
-  pub high : i ≤ n
-  pub made_is : made ≡ front (λ i. counter k (place ds) (suc i)) i blank
-
-pub counting_first : {n k : ℕ} {ds : List ℕ} → Counting n k ds blank 0
-counting_first = record { high = omega arith; made_is = begun _ blank }
-
-pub counting_on : {n k : ℕ} {ds made : List ℕ} {i c : ℕ} → Permitted n k → Counting n k ds made i → i < n → c ≡ counter k (λ _. at ds i) (i + 1) →
-    Counting n k ds (set made i c) (i + 1)
-counting_on {k} {ds} {i} sizes done l c_is =
-    record { high = omega arith; made_is = stored _ i blank done.made_is (omega (arith, sizes.n_high)) (c_is ∙ counter_at k ds i) }
 
 -- ---- the end of a run
 
@@ -98,9 +49,6 @@ pub record Running (n k : ℕ) (ds : List ℕ) (j e : ℕ) : Type 0 where
   pub low : 1 ≤ e
   pub high : e ≤ suc n
   pub same : run_end_lem (suc n - j) k (place ds) j ≡ run_end_lem (suc n - e) k (place ds) e
-
-pub running_first : {n k : ℕ} {ds : List ℕ} {j : ℕ} → 1 ≤ j → j ≤ suc n → Running n k ds j j
-running_first low high = record { low = low; high = high; same = refl }
 
 -- it goes on where digit j is full
 pub run_goes_on : (n k : ℕ) (d : ℕ → ℕ) (j : ℕ) → j ≤ n → full k d j ≡ true → run_end_lem (suc n - j) k d j ≡ run_end_lem (suc n - suc j) k d (suc j)
@@ -124,10 +72,12 @@ module _ {n k j e : ℕ} {ds : List ℕ} (run : Running n k ds j e) {b : Bool} (
   }
 
 -- there is no digit left
-pub run_reached : {n k : ℕ} {ds : List ℕ} {j e : ℕ} → Running n k ds j e → n < e → (e ≡ run_end_lem (suc n - j) k (place ds) j) × (e ≤ suc n)
+pub run_reached : {n k : ℕ} {ds : List ℕ} {j e : ℕ} → Running n k ds j e → n < e → (n + 1 ≡ run_end_lem (suc n - j) k (place ds) j) × (n + 1 ≤ suc n)
 unfolding run_end_lem
 run_reached {n} {k} {ds} {j} {e} run l =
-    let none : suc n - e ≡ 0 = omega (arith, run.high) in (sym (run.same ∙ ap (λ m. run_end_lem m k (place ds) e) none), run.high)
+    let none : suc n - e ≡ 0 = omega (arith, run.high) in
+    let all : n + 1 ≡ e = omega (arith, run.high) in
+    (all ∙ sym (run.same ∙ ap (λ m. run_end_lem m k (place ds) e) none), omega arith)
 
 -- ---- the pointers
 
@@ -140,17 +90,15 @@ pointer_is n k d i =
 
 -- the first i pointers are made, and it is known whether digit i is full
 pub record Pointing (n k : ℕ) (ds made : List ℕ) (within : Bool) (i : ℕ) : Type 0 where
-  pub high : i ≤ suc n
   pub known : within ≡ full k (place ds) i
   pub made_is : made ≡ front (λ i. pointer n k (place ds) (suc i)) i blank
 
 pub pointing_first : {n k : ℕ} {ds : List ℕ} → Pointing n k ds blank false 0
-pointing_first {k} {ds} = record { high = omega arith; known = sym (full_below k (place ds) 0 (lowest_range k).0); made_is = begun _ blank }
+pointing_first {k} {ds} = record { known = sym (full_below k (place ds) 0 (lowest_range k).0); made_is = begun _ blank }
 
 pub pointing_on : {n k : ℕ} {ds : List ℕ} {made : List ℕ} {within : Bool} {i f : ℕ} {b : Bool} → Permitted n k → Pointing n k ds made within i → i ≤ n →
     f ≡ cond within (i + 1) (run_end_lem (suc n - (i + 1)) k (place ds) (i + 1)) → b ≡ full k (λ _. at ds i) (i + 1) → Pointing n k ds (set made i f) b (i + 1)
 pointing_on {n} {k} {ds} {made} {within} {i} {f} sizes done l f_is told = record {
-  high = omega arith;
   known = told ∙ full_at k ds i ∙ rw add-one;
   made_is =
       let to : f ≡ cond within (suc i) (run_end_lem (suc n - suc i) k (place ds) (suc i)) = rw add-one at f_is in

@@ -1,6 +1,6 @@
 -- What the functions on boards ask of their callers, who have made the checks.
 use Rattle.std.specs.Prelude.{ℕ, suc, ◌*◌, ◌≤◌, ◌<◌, ◌≡◌, List, length}
-use Rattle.sizes.specs.Sizes.{weight, Permitted}
+use Rattle.sizes.specs.Sizes.{Permitted}
 use Rattle.board.specs.Board.{place}
 
 -- two buffers for a board of n digits
@@ -9,12 +9,6 @@ pub record LentBoard (n k : ℕ) (cs fs : List ℕ) : Type 0 where
   pub counters : length cs ≡ n
   pub pointers : length fs ≡ suc n
 
--- a rank of n slots, and two buffers for its board
-pub record BoardAsked (n k r : ℕ) (cs fs : List ℕ) : Type 0 where
-  pub lent : LentBoard n k cs fs
-  pub rank : r < weight n k
-
 -- a row by value whose digits 1 to n are in their ranges
 pub record DigitsAsked (n k : ℕ) (ds : List ℕ) : Type 0 where
-  pub sizes : Permitted n k
   pub each : (j : ℕ) → 1 ≤ j → j ≤ n → place ds j < k * j

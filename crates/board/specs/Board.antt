@@ -48,6 +48,6 @@ pub record IsBoard (n k r : ℕ) (cs fs : List ℕ) : Type 0 where
   pub pointers_are : fs ≡ pointers n k (digit k r)
 
 -- what the writing of the board of a rank leaves
-unfoldable pub board_leaves : ℕ → ℕ → ℕ → List ℕ → List ℕ → Outcome
+unfoldable pub board_leaves : ℕ → ℕ → ℕ → List ℕ → List ℕ → Outcome Unit
 board_leaves n k r cs fs =
-    outcome (lent_rank_verdict n k r cs 1 fs) 0 cs fs (counters n k (digit k r)) (pointers n k (digit k r))
+    outcome (lent_rank_verdict n k r cs 1 fs) tt cs fs (counters n k (digit k r)) (pointers n k (digit k r))

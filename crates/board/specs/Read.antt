@@ -1,15 +1,13 @@
 -- 01, "The counter board": the whole reading of a board. It answers the rank of the board, or 10 where it is no rank's board.
-use Rattle.std.specs.Prelude.{ℕ, zero, suc, ◌-◌, ◌*◌, ◌<◌, ◌≡◌, List}
+use Rattle.std.specs.Prelude.{ℕ, zero, suc, ◌-◌, ◌*◌, ◌<◌, ◌≡◌, List, Result, Ok, Err}
 use Rattle.rows.specs.Row.{at}
 use Rattle.rows.specs.Search.{if_lt}
-use Rattle.sizes.specs.declared.Verdict.{Verdict}
-use Rattle.sizes.specs.declared.Verdict.TheVariants.{Fine, Refused}
-use Rattle.sizes.specs.Refusal.{first}
+use Rattle.sizes.specs.declared.Fault.TheVariants.{Board}
+use Rattle.sizes.specs.declared.Refusal.{Refusal}
+use Rattle.sizes.specs.Refusal.{Verdict, fine, refused, first}
 use Rattle.sizes.specs.Sizes.{weight}
 use Rattle.arrangement.specs.Check.{buffers_verdict}
 use Rattle.board.specs.Board.{place, IsBoard}
-use Rattle.board.specs.declared.read.Reading.{Reading}
-use Rattle.board.specs.declared.read.Reading.TheVariants.{Rank, Unread}
 
 -- two buffers hold the board of no rank
 pub record NoBoard (n k : ℕ) (cs fs : List ℕ) : Type 0 where
@@ -17,19 +15,19 @@ pub record NoBoard (n k : ℕ) (cs fs : List ℕ) : Type 0 where
 
 -- what the reading of any two lent buffers answers: a rank whose board they hold; or else the refusal of the buffers, and 10 where
 -- these are right but hold no rank's board
-unfoldable pub Reads : ℕ → ℕ → List ℕ → List ℕ → Reading → Type 0
-Reads n k cs fs (Rank r) = (buffers_verdict n k cs 1 fs ≡ Fine) × (r < weight n k) × IsBoard n k r cs fs
-Reads n k cs fs (Unread number place) =
-    (Refused number place ≡ first (buffers_verdict n k cs 1 fs) (Refused 10 0)) × (buffers_verdict n k cs 1 fs ≡ Fine → NoBoard n k cs fs)
+unfoldable pub Reads : ℕ → ℕ → List ℕ → List ℕ → Result ℕ Refusal → Type 0
+Reads n k cs fs (Ok r) = (buffers_verdict n k cs 1 fs ≡ fine) × (r < weight n k) × IsBoard n k r cs fs
+Reads n k cs fs (Err refusal) =
+    (Err refusal ≡ first (buffers_verdict n k cs 1 fs) (refused Board 0)) × (buffers_verdict n k cs 1 fs ≡ fine → NoBoard n k cs fs)
 
 -- the verdict that a reading stands for, and its rank: 0 where it was refused
-unfoldable pub verdict_of : Reading → Verdict
-verdict_of (Rank r) = Fine
-verdict_of (Unread number place) = Refused number place
+unfoldable pub verdict_of : Result ℕ Refusal → Verdict
+verdict_of (Ok r) = fine
+verdict_of (Err refusal) = Err refusal
 
-unfoldable pub rank_read : Reading → ℕ
-rank_read (Rank r) = r
-rank_read (Unread number place) = 0
+unfoldable pub rank_read : Result ℕ Refusal → ℕ
+rank_read (Ok r) = r
+rank_read (Err refusal) = 0
 
 -- ---- how it is read
 

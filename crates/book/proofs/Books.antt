@@ -10,7 +10,7 @@ use lib.ListN.{length, take, drop, length-append}
 use lib.Seq.{slice, slice-cons, take-length, take-suc, get_or-take, take_all, take_at, drop_at}
 use Rattle.rows.specs.Row.{at}
 use Rattle.rows.proofs.Rows.{length_row, at_row, row_ext}
-use Rattle.sizes.specs.declared.Verdict.TheVariants.{Fine}
+use Rattle.sizes.specs.Refusal.{fine}
 use Rattle.sizes.specs.Refusal.{unless_refused}
 use Rattle.arrangement.specs.Arrangement.{Valid}
 use Rattle.arrangement.proofs.Validity.{valid_ext}
@@ -156,7 +156,7 @@ module _ {format : Format} (sound : Sound format) (xs : List ℕ) (bytes : Bytes
   checked_entry : (i : ℕ) → i < entries_of xs → slice (entry_place_lem i) (entry_place_lem i + 14) xs ≡ entry_bytes (expected format xs i) (stretch_in format xs i)
   unfolding entry_bytes stretch_in n_of k_of count_of
   checked_entry i l =
-      entry_parts xs (entry_place_lem i) bytes (entry_inside (record { few = c.few; uncut = c.uncut }) l) ∙
+      entry_parts xs (entry_place_lem i) bytes (entry_inside (record { few = c.few; uncut = c.uncut }) l).1 ∙
       ap (λ o. n_of xs i ∷ k_of xs i ∷ (bytes_of 4 o ++ bytes_of 8 (count_of xs i))) (offset_is i l)
     where
       offset_is : (i : ℕ) → i < entries_of xs → number_in (slice (entry_place_lem i + 2) (entry_place_lem i + 6) xs) ≡ expected format xs i
@@ -320,9 +320,9 @@ module _ {format : Format} (sound : Sound format) {e : ℕ} {s : ℕ → Stretch
 -- ---- accepted exactly where well formed
 
 module _ {format : Format} (sound : Sound format) (xs : List ℕ) where
-  pub accepted_well_formed : Bytes xs → book_verdict format xs ≡ Fine → WellFormed format xs
-  accepted_well_formed bytes fine =
-      let c = checked format xs fine in
+  pub accepted_well_formed : Bytes xs → book_verdict format xs ≡ fine → WellFormed format xs
+  accepted_well_formed bytes passed =
+      let c = checked format xs passed in
       record {
         e = entries_of xs;
         s = stretch_in format xs;
@@ -332,15 +332,15 @@ module _ {format : Format} (sound : Sound format) (xs : List ℕ) where
         bytes = checked_book sound xs bytes c;
       }
 
-  pub well_formed_accepted : WellFormed format xs → book_verdict format xs ≡ Fine
+  pub well_formed_accepted : WellFormed format xs → book_verdict format xs ≡ fine
   well_formed_accepted w =
       sym (checked_fine format xs (laid_checked sound (book_laid format w.e w.s xs w.bytes) w.bookable w.few w.some))
 
   -- for some entry, and then for each of its entries
-  pub accepted_exactly : Bytes xs → ((entry : ℕ) × (asked_verdict format xs entry ≡ Fine)) ↔ WellFormed format xs
+  pub accepted_exactly : Bytes xs → ((entry : ℕ) × (asked_verdict format xs entry ≡ fine)) ↔ WellFormed format xs
   accepted_exactly bytes = (
     λ a. accepted_well_formed bytes (book_fine format xs a.0 a.1),
-    λ w. let fine = well_formed_accepted w in (1, asked_fine format xs 1 fine (omega arith) (checked format xs fine).some),
+    λ w. let passed = well_formed_accepted w in (1, asked_fine format xs 1 passed (omega arith) (checked format xs passed).some),
   )
 
 -- ---- the answers determine the bytes
@@ -358,20 +358,20 @@ module _ {format : Format} (sound : Sound format) (xs ys : List ℕ) (bytes_x : 
   unfolding answers_of
   same_verdict entry = ap (λ a. a.verdict) (told entry)
 
-  same_answers : (i : ℕ) → asked_verdict format xs (i + 1) ≡ Fine → stretch_in format xs i ≡ stretch_in format ys i
+  same_answers : (i : ℕ) → asked_verdict format xs (i + 1) ≡ fine → stretch_in format xs i ≡ stretch_in format ys i
   unfolding answers_of unless_refused stretch_in
-  same_answers i fine =
-      let fine_too : asked_verdict format ys (i + 1) ≡ Fine = sym (same_verdict (i + 1)) ∙ fine in
+  same_answers i passed =
+      let passed_too : asked_verdict format ys (i + 1) ≡ fine = sym (same_verdict (i + 1)) ∙ passed in
       let here : i + 1 - 1 ≡ i = omega arith in
       let a : answers_of format xs (i + 1) ≡ answers_of format ys (i + 1) = told (i + 1) in
-      let n_is : n_of xs i ≡ n_of ys i = rw (fine, fine_too, here) at (ap (λ a. a.n) a) in
-      let k_is : k_of xs i ≡ k_of ys i = rw (fine, fine_too, here) at (ap (λ a. a.k) a) in
-      let count_is : count_of xs i ≡ count_of ys i = rw (fine, fine_too, here) at (ap (λ a. a.count) a) in
-      let rank_is : rank_of format xs i ≡ rank_of format ys i = rw (fine, fine_too, here) at (ap (λ a. a.start) a) in
+      let n_is : n_of xs i ≡ n_of ys i = rw (passed, passed_too, here) at (ap (λ a. a.n) a) in
+      let k_is : k_of xs i ≡ k_of ys i = rw (passed, passed_too, here) at (ap (λ a. a.k) a) in
+      let count_is : count_of xs i ≡ count_of ys i = rw (passed, passed_too, here) at (ap (λ a. a.count) a) in
+      let rank_is : rank_of format xs i ≡ rank_of format ys i = rw (passed, passed_too, here) at (ap (λ a. a.start) a) in
       λ j. record { n = n_is j; k = k_is j; rank = rank_is j; count = count_is j }
 
   -- as many entries
-  same_entries : book_verdict format xs ≡ Fine → book_verdict format ys ≡ Fine → entries_of xs ≡ entries_of ys
+  same_entries : book_verdict format xs ≡ fine → book_verdict format ys ≡ fine → entries_of xs ≡ entries_of ys
   same_entries fine_x fine_y =
       let x = checked format xs fine_x in
       let y = checked format ys fine_y in
@@ -381,10 +381,10 @@ module _ {format : Format} (sound : Sound format) (xs ys : List ℕ) (bytes_x : 
       (asked format xs (entries_of ys) (same_verdict (entries_of ys) ∙ asked_fine format ys (entries_of ys) fine_y y.some (le_refl _))).high in
       omega arith
 
-  pub determined : book_verdict format xs ≡ Fine → xs ≡ ys
+  pub determined : book_verdict format xs ≡ fine → xs ≡ ys
   determined fine_x =
       let x = checked format xs fine_x in
-      let fine_y : book_verdict format ys ≡ Fine = book_fine format ys 1 (sym (same_verdict 1) ∙ asked_fine format xs 1 fine_x (omega arith) x.some) in
+      let fine_y : book_verdict format ys ≡ fine = book_fine format ys 1 (sym (same_verdict 1) ∙ asked_fine format xs 1 fine_x (omega arith) x.some) in
       let y = checked format ys fine_y in
       let same = same_entries fine_x fine_y in
       checked_book sound xs bytes_x x ∙

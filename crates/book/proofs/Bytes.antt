@@ -1,14 +1,15 @@
 -- Numbers in bytes. A number below 2 ^ (8 × w) is what its w bytes stand for, and bytes are those of the number they stand for;
 -- both by taking off the least byte. Assumes nothing.
-use Prim.Native.Nat.{ℕ, zero, suc, ◌+◌, ◌-◌, ◌*◌, ◌^◌, ◌/◌, ◌%◌, ◌≤◌, ◌<◌}
+use Prim.Native.Nat.{ℕ, zero, suc, ◌+◌, ◌*◌, ◌^◌, ◌/◌, ◌%◌, ◌≤◌, ◌<◌}
 use mathlib.Core.Path.{◌≡◌, refl, sym, ◌∙◌, ap, ap₂}
-use mathlib.Core.List.{List, [], ◌∷◌}
-use native.Mathlib.Nat.{le_refl, lt_of_lt_of_le}
+use mathlib.Core.List.{List, [], ◌∷◌, ◌++◌, append_assoc, append-nil}
+use native.Mathlib.Nat.{lt_of_lt_of_le}
 use native.Mathlib.Omega.{arith}
+use Rattle.std.proofs.Common.{Fits, w8}
 use lib.Arith.{digits_div, digits_mod}
-use lib.ListN.{length, take, get_or-eq_default}
-use lib.Pow.{pow-add, pow_mono, pow_pos}
-use lib.Seq.{slice, slice-cons, slice_empty, length-slice, length-take-le, get_or-drop, get_or-take}
+use lib.ListN.{length, take, length-append, get_or-eq_default}
+use lib.Pow.{pow-add, pow_mono}
+use lib.Seq.{slice, length-slice, length-take-le, get_or-drop, get_or-take, get_or-append_seam}
 use Rattle.rows.specs.Row.{at}
 use Rattle.rows.proofs.Cases.{by_lt}
 use Rattle.book.specs.Format.{Bytes, bytes_of, number_in}
@@ -54,36 +55,35 @@ slice_back xs f w b inside =
 
 -- ---- read from the last byte to the first
 
--- the bytes from place + i to place + width have been read
-pub record Reading (xs : List ℕ) (place width number i : ℕ) : Type 0 where
-  pub high : i ≤ width
-  pub is : number ≡ number_in (slice (place + i) (place + width) xs)
-  pub small : number < 2 ^ (8 * (width - i))
+-- of the bytes xs these are left, and the number is that of those behind them
+pub record Reading (xs left : List ℕ) (number : ℕ) : Type 0 where
+  pub read : List ℕ
+  pub parts : xs ≡ left ++ read
+  pub is : number ≡ number_in read
+  pub small : number < 2 ^ (8 * length read)
 
-pub nothing_read : (xs : List ℕ) (place width : ℕ) → Reading xs place width 0 width
+pub nothing_read : (xs : List ℕ) → Reading xs xs 0
 unfolding number_in
-nothing_read xs place width = record {
-  high = le_refl width;
-  is = sym (ap number_in (slice_empty (place + width) xs));
-  small = pow_pos (8 * (width - width));
-}
+nothing_read xs = record { read = []; parts = sym (append-nil xs); is = refl; small = omega arith }
 
-module _ {xs : List ℕ} {place width number i : ℕ} (inside : place + width ≤ length xs) (few : width ≤ 8) (so : Reading xs place width number i) (some : 0 < i) where
+module _ {xs left : List ℕ} (before : List ℕ) {number : ℕ} (byte : ℕ) (bytes : (i : ℕ) → Fits w8 (at xs i)) (few : length xs ≤ 8) (so : Reading xs left number) (next : left ≡ before ++ byte ∷ []) where
+  parts_too : xs ≡ before ++ byte ∷ so.read
+  parts_too = so.parts ∙ ap (λ ys. ys ++ so.read) next ∙ append_assoc before (byte ∷ []) so.read
+
   pub room : number < 2 ^ 56
-  room = lt_of_lt_of_le so.small (pow_mono {j = 56} (omega (arith, so.high)))
+  room =
+      lt_of_lt_of_le so.small (pow_mono {j = 56} (omega (arith, ap length parts_too, length-append before (byte ∷ so.read))))
 
-  pub byte_read : {byte : ℕ} → byte ≡ at xs (place + (i - 1)) → byte < 256 → Reading xs place width (number * 256 + byte) (i - 1)
+  pub byte_low : byte < 256
+  byte_low =
+      let there : at xs (length before) ≡ byte = ap (λ ys. at ys (length before)) parts_too ∙ get_or-append_seam before byte so.read 0 in
+      omega (arith, bytes (length before))
+
+  pub byte_read : {b : ℕ} → b ≡ byte → Reading xs before (number * 256 + b)
   unfolding number_in
-  byte_read {byte} is_at low =
-      let left : width - (i - 1) ≡ suc (width - i) = omega (arith, so.high) in
-      let next : suc (place + (i - 1)) ≡ place + i = omega arith in
-      let more = more_bytes (width - i) in
-      record {
-        high = omega (arith, so.high);
-        is =
-            let tail : number_in (slice (suc (place + (i - 1))) (place + width) xs) ≡ number = rw next (sym so.is) in
-            let whole : number_in (slice (place + (i - 1)) (place + width) xs) ≡ byte + 256 * number =
-            rw (slice-cons (place + (i - 1)) (place + width) xs 0 (omega (arith, so.high)) inside, tail, is_at) in
-            omega arith;
-        small = rw left (omega (arith, so.small));
-      }
+  byte_read {b} is = record {
+    read = byte ∷ so.read;
+    parts = parts_too;
+    is = let low = so.is in omega arith;
+    small = omega (arith, so.small, more_bytes (length so.read), byte_low);
+  }

@@ -7,6 +7,7 @@ use native.Mathlib.Nat.{le_refl, not-suc-le-zero}
 use native.Mathlib.Omega.{arith}
 use lib.ListN.{length, take, drop, take-append-drop, length-append}
 use lib.Seq.{slice, length-slice, length-take-le, take-take, get_or-take, get_or-drop, drop-append-le, take_at, drop_at, ext_get_or}
+use Rattle.std.proofs.lemmas.List.{drop-take}
 use Rattle.rows.specs.Row.{at, row}
 use Rattle.rows.proofs.Cases.{by_last}
 use Rattle.rows.proofs.Rows.{length_row, at_row}
@@ -30,6 +31,11 @@ slice_row xs f w h =
     let long : length (slice f (f + w) xs) ≡ w = omega (arith, length-slice f (f + w) xs h) in
     ext_get_or 0 (slice f (f + w) xs) (row (λ p. at xs (f + p)) w) (long ∙ sym (length_row _ w))
     (λ j l. slice_at xs f (f + w) j (omega arith) ∙ sym (at_row (λ p. at xs (f + p)) w j (omega arith)))
+
+-- what code takes of a list from place f to place t is the slice
+pub part_slice : (f t : ℕ) (xs : List ℕ) → f ≤ t → take (t - f) (drop f xs) ≡ slice f t xs
+part_slice f t xs h =
+    let ends : f + (t - f) ≡ t = omega arith in sym (drop-take f (t - f) xs) ∙ ap (λ x. drop f (take x xs)) ends
 
 -- a slice of a slice
 pub slice_within : (xs : List ℕ) (f t g u : ℕ) → g ≤ u → f + u ≤ t → t ≤ length xs → slice (f + g) (f + u) xs ≡ slice g u (slice f t xs)

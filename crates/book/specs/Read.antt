@@ -1,12 +1,11 @@
 -- 01, "Stretch books" and "Numbers of refusal", 13 to 16 and 18: the reading of any bytes as a book. A book has an order of
 -- refusals of its own, and is refused as a whole: what is wrong with one entry refuses every entry that is asked for.
-use Rattle.std.specs.Prelude.{ℕ, zero, suc, ◌+◌, ◌-◌, true, cond, not, List, eqb, ltb, length}
+use Rattle.std.specs.Prelude.{ℕ, zero, suc, ◌+◌, ◌-◌, true, cond, not, List, eqb, ltb, length, Ok, Err}
 use Rattle.std.proofs.Math.Seq.{slice}
 use Rattle.rows.specs.Row.{at}
 use Rattle.rows.specs.Search.{outside}
-use Rattle.sizes.specs.declared.Verdict.{Verdict}
-use Rattle.sizes.specs.declared.Verdict.TheVariants.{Fine, Refused}
-use Rattle.sizes.specs.Refusal.{first, refused_if, unless_refused}
+use Rattle.sizes.specs.declared.Fault.TheVariants.{Contents, Format as WrongFormat, Entry, End, Asked}
+use Rattle.sizes.specs.Refusal.{Verdict, fine, refused, first, refused_if, unless_refused}
 use Rattle.sizes.specs.Sizes.{weight, sizes_verdict}
 use Rattle.arrangement.specs.Check.{length_verdict, slots_verdict}
 use Rattle.order.specs.Rank.{rank}
@@ -17,6 +16,10 @@ use Rattle.book.specs.Format.{Format, number_in, most_entries, entry_place_lem, 
 -- the entry number
 unfoldable pub entries_of : List ℕ → ℕ
 entries_of xs = at xs 1
+
+-- the bytes of entry i
+unfoldable pub entry_of : List ℕ → ℕ → List ℕ
+entry_of xs i = slice (entry_place_lem i) (entry_place_lem i + 14) xs
 
 -- n, k, offset and count of entry i. `slice a b` are the bytes from place a on, up to place b and without it
 unfoldable pub n_of : List ℕ → ℕ → ℕ
@@ -49,36 +52,36 @@ rank_of format xs i = rank (n_of xs i) (k_of xs i) (modules_of format xs i) (set
 
 -- a verdict about an entry: its place is 01's number of the entry
 unfoldable pub in_entry_lem : ℕ → Verdict → Verdict
-in_entry_lem i Fine = Fine
-in_entry_lem i (Refused number place) = Refused number (suc i)
+in_entry_lem i (Ok done) = fine
+in_entry_lem i (Err refusal) = refused refusal.fault (suc i)
 
 -- the first that refuses of the verdicts about entries 0, 1, .. , m - 1
 unfoldable pub first_of : (ℕ → Verdict) → ℕ → Verdict
-first_of verdict zero = Fine
+first_of verdict zero = fine
 first_of verdict (suc m) = first (first_of verdict m) (in_entry_lem m (verdict m))
 
 -- 13: the book ends before a place up to which it must go
 unfoldable pub cut_verdict : ℕ → List ℕ → Verdict
-cut_verdict end xs = refused_if 13 (ltb (length xs) end)
+cut_verdict end xs = refused_if Contents (ltb (length xs) end)
 
 -- 14: byte 0 isn't the format's number, or the entry number is 0 or above 64
 unfoldable pub head_verdict : Format → List ℕ → Verdict
-head_verdict format xs = refused_if 14 (cond (eqb (at xs 0) format.number) (outside 1 most_entries (entries_of xs)) true)
+head_verdict format xs = refused_if WrongFormat (cond (eqb (at xs 0) format.number) (outside 1 most_entries (entries_of xs)) true)
 
 -- 15: a count is 0 or above T
 unfoldable pub book_count_verdict : ℕ → ℕ → ℕ → Verdict
-book_count_verdict n k count = refused_if 15 (outside 1 (weight n k) count)
+book_count_verdict n k count = refused_if Entry (outside 1 (weight n k) count)
 
 -- 1, 2, 3 and 15 of entry i: 15 where the offset isn't the expected one, or where its count is refused
 unfoldable pub entry_verdict : Format → List ℕ → ℕ → Verdict
 entry_verdict format xs i =
     first (sizes_verdict (n_of xs i) (k_of xs i))
-    (first (refused_if 15 (not (eqb (offset_of xs i) (expected format xs i))))
+    (first (refused_if Entry (not (eqb (offset_of xs i) (expected format xs i))))
     (book_count_verdict (n_of xs i) (k_of xs i) (count_of xs i)))
 
 -- 16: the book's length isn't the end of the last body
 unfoldable pub end_verdict : Format → List ℕ → Verdict
-end_verdict format xs = refused_if 16 (not (eqb (length xs) (expected format xs (entries_of xs))))
+end_verdict format xs = refused_if End (not (eqb (length xs) (expected format xs (entries_of xs))))
 
 -- all entries in order, and then the end
 unfoldable pub contents_verdict : Format → List ℕ → Verdict
@@ -100,7 +103,7 @@ book_verdict format xs =
 
 -- the check of a book and of the entry asked for, 01's entry 1 to E: 18 where that is 0 or above E
 unfoldable pub asked_verdict : Format → List ℕ → ℕ → Verdict
-asked_verdict format xs entry = first (book_verdict format xs) (refused_if 18 (outside 1 (entries_of xs) entry))
+asked_verdict format xs entry = first (book_verdict format xs) (refused_if Asked (outside 1 (entries_of xs) entry))
 
 -- and of the two lent buffers, which are to have n bytes each: 4
 unfoldable pub lent_entry_verdict : Format → List ℕ → ℕ → List ℕ → List ℕ → Verdict

@@ -1,8 +1,8 @@
 // The bytes of a book: places, numbers and bodies.
-ghost use Rattle.std.specs.Prelude.{◌≡◌, ◌+◌, ◌≤◌, length};
-ghost use Rattle.std.proofs.Math.Seq.{slice};
+ghost use Rattle.std.specs.Prelude.{◌≡◌, ◌+◌, ◌<◌, ◌≤◌, length};
 ghost use Rattle.rows.specs.Row.{at, row};
 ghost use Rattle.book.specs.Format.{most_entries, entry_place_lem, number_in, format_one};
+ghost use Rattle.book.specs.Read.{entry_of};
 
 pub const MOST_ENTRIES: usize = 64;
 
@@ -16,6 +16,7 @@ pub struct Stretch {
 }
 
 // Where an entry begins; of the entry number, where the contents end.
+#[tactic(auto, unfolding(crate::specs::Format::entry_place_lem))]
 pub fn entry_place(i: usize) -> usize
     requires { i ≤ most_entries }
     ensures { result ≡ entry_place_lem i }
@@ -23,31 +24,36 @@ pub fn entry_place(i: usize) -> usize
     2 + 14 * i
 }
 
-// The number in so many bytes, least first.
-pub fn number_in(book: &[u8], place: usize, width: usize) -> u64
-    requires { (width ≤ 8) × (place + width ≤ length book.now) }
-    ensures { result ≡ number_in (slice place (place + width) book.now) }
+// The bytes of an entry: n, k, the offset of its body, and the count.
+pub fn entry(book: &[u8], i: usize) -> &[u8]
+    requires { (i < most_entries) × (entry_place_lem i + 14 ≤ length book.now) }
+    ensures is { result.now ≡ entry_of book.now i }
+    ensures long { length result.now ≡ 14 }
 {
-    let mut number = 0u64;
-    let mut i = width;
-    while 0 < i {
-        i -= 1;
-        number = number * 256 + book[place + i] as u64;
+    let place = entry_place(i);
+    &book[place..place + 14]
+}
+
+// The number in some bytes, least first: four or eight of them, so `from_le_bytes` would be two functions.
+pub fn number_in(bytes: &[u8]) -> u64
+    requires { length bytes.now ≤ 8 }
+    ensures { result ≡ number_in bytes.now }
+{
+    let mut number = 0;
+    for byte in bytes.iter().rev() {
+        number = number * 256 + u64::from(*byte);
     }
     number
 }
 
-// Writes the arrangement of the body that begins at a place into two rows of as many slots as it has.
-pub fn take_body(book: &[u8], place: usize, modules: &mut [u8], settings: &mut [u8])
-    requires { (place + length modules.old ≤ length book.now) × (length settings.old ≡ length modules.old) }
-    ensures modules_after { modules.new ≡ row (format_one.module_in (λ p. at book.now (place + p))) (length modules.old) }
-    ensures settings_after { settings.new ≡ row (format_one.setting_in (λ p. at book.now (place + p))) (length modules.old) }
+// Writes the arrangement of a body into two rows of as many slots as it has.
+pub fn take_body(body: &[u8], modules: &mut [u8], settings: &mut [u8])
+    requires { (length modules.old ≡ length body.now) × (length settings.old ≡ length body.now) }
+    ensures modules_after { modules.new ≡ row (format_one.module_in (at body.now)) (length body.now) }
+    ensures settings_after { settings.new ≡ row (format_one.setting_in (at body.now)) (length body.now) }
 {
-    let mut i = 0;
-    while i < modules.len() {
-        let byte = book[place + i];
-        modules[i] = byte % 32;
-        settings[i] = byte / 32;
-        i += 1;
+    for (i, byte) in body.iter().enumerate() {
+        modules[i] = *byte % 32;
+        settings[i] = *byte / 32;
     }
 }

@@ -2,16 +2,16 @@
 // and its slots. A book that is refused prints only the line of its refusal, on standard error.
 #![tactic(auto)]
 
-ghost use Rattle.std.specs.Prelude.{◌≡◌, ◌+◌, ◌-◌, ◌≤◌, length};
-ghost use Rattle.rows.specs.Put.{Put};
-ghost use Rattle.sizes.specs.declared.Verdict.TheVariants.{Fine};
+ghost use Rattle.std.specs.Prelude.{◌≡◌, ◌+◌, ◌-◌, ◌≤◌, OnOk, OnErr};
+ghost use Rattle.arrayvec.specs.ArrayVec.{array_vec_len, Extends};
+ghost use Rattle.sizes.specs.Refusal.{fine};
 ghost use Rattle.text.specs.Text.{entry_most};
 ghost use Rattle.book.specs.Format.{format_one};
-ghost use Rattle.book.specs.Read.{book_verdict, asked_verdict};
-ghost use Rattle.print.specs.Prints.{Prints};
+ghost use Rattle.book.specs.Read.{book_verdict};
 ghost use Rattle.book_read.specs.Lines.{line_of, lines_of, lines_most};
 
-use print::Printed;
+use arrayvec::ArrayVec;
+use entry::asked::Entry;
 use sizes::{MOST_SLOTS, Verdict};
 use text::write;
 
@@ -19,61 +19,54 @@ use text::write;
 const LONGEST: usize = 2179;
 
 // Room for the lines of any book.
-const BUFFER: usize = 65536;
+const ROOM: usize = 65536;
 
 // Puts the line of an entry.
-fn put_line(out: &mut [u8], from: usize, book: &[u8], entry: usize) -> usize
-    requires { (from + entry_most ≤ length out.old) × (asked_verdict format_one book.now entry ≡ Fine) }
-    ensures put { Put out.old from (line_of book.now (entry - 1)) result out.new }
-    ensures upper_bound { result ≤ from + entry_most }
+fn put_line(out: &mut ArrayVec<u8, ROOM>, entry: Entry)
+    requires { array_vec_len out.old + entry_most ≤ 65536 }
+    ensures put { Extends out.old (line_of entry.entry.book.now (entry.entry.number - 1)) out.new }
+    ensures upper_bound { array_vec_len out.new ≤ array_vec_len out.old + entry_most }
 {
-    let n = entry::slots(book, entry);
-    let k = entry::settings(book, entry);
-    let count = entry::count(book, entry);
-    let rank = entry::rank(book, entry);
+    let n = entry.slots();
+    let k = entry.settings();
+    let count = entry.count();
+    let rank = entry.rank();
     let mut modules = [0u8; MOST_SLOTS];
     let mut settings = [0u8; MOST_SLOTS];
-    entry::write(book, entry, &mut modules[..n], &mut settings[..n]);
-    write::put_entry(out, from, k, count, rank, &modules[..n], &settings[..n])
+    entry.write(&mut modules[..n], &mut settings[..n]);
+    write::put_entry(out, k, count, rank, &modules[..n], &settings[..n]);
 }
 
 // Puts the lines of all entries.
-fn put_lines(out: &mut [u8], book: &[u8]) -> usize
-    requires { (lines_most ≤ length out.old) × (book_verdict format_one book.now ≡ Fine) }
-    ensures put { Put out.old 0 (lines_of book.now) result out.new }
-    ensures upper_bound { result ≤ length out.new }
+fn put_lines(out: &mut ArrayVec<u8, ROOM>, book: &[u8])
+    requires { (array_vec_len out.old + lines_most ≤ 65536) × (book_verdict format_one book.now ≡ fine) }
+    ensures { Extends out.old (lines_of book.now) out.new }
 {
-    let entries = book[1] as usize;
-    let mut end = 0;
-    let mut i = 0;
-    while i < entries {
-        i += 1;
-        end = put_line(out, end, book, i);
+    for i in 0..usize::from(book[1]) {
+        let entry = Entry {
+            book,
+            number: i + 1,
+        };
+        put_line(out, entry);
     }
-    end
 }
 
-// Puts what is to be printed of any bytes as a book.
-fn answer(book: &[u8], out: &mut [u8]) -> Printed
-    requires { lines_most ≤ length out.old }
-    ensures { Prints (book_verdict format_one book.now) (lines_of book.now) out.old result out.new }
+// Puts what is to be printed of any bytes as a book, where they are one.
+fn answer(book: &[u8], out: &mut ArrayVec<u8, ROOM>) -> Verdict
+    requires { array_vec_len out.old + lines_most ≤ 65536 }
+    ensures verdict { result ≡ book_verdict format_one book.now }
+    ensures text { OnOk result (Extends out.old (lines_of book.now) out.new) }
+    ensures kept { OnErr result (out.new ≡ out.old) }
 {
-    match book::check::judge_book(book) {
-        Verdict::Refused(number, place) => print::refusal(number, place, out),
-        Verdict::Fine => {
-            let end = put_lines(out, book);
-            Printed {
-                refused: false,
-                end,
-            }
-        }
-    }
+    book::check::judge_book(book)?;
+    put_lines(out, book);
+    Ok(())
 }
 
 fn main(rt: HostRuntime) {
     let mut input = [0u8; LONGEST];
-    let mut out = [0u8; BUFFER];
+    let mut out = ArrayVec::<u8, ROOM>::new();
     let count = streams::read_full(&mut rt.stdin(), &mut input);
-    let printed = answer(&input[..count], &mut out);
-    print::print(printed, &out, &mut rt.stdout(), &mut rt.stderr());
+    let verdict = answer(&input[..count], &mut out);
+    print::print(verdict, &out, &mut rt.stdout(), &mut rt.stderr());
 }

@@ -13,8 +13,7 @@ use Rattle.rows.proofs.Puts.{put_length}
 use Rattle.rows.proofs.Cases.{by_last}
 use Rattle.line.specs.Decimal.{most}
 use Rattle.line.specs.Line.{Says, Reads, line_long}
-use Rattle.line.specs.declared.Line.{Line}
-use Rattle.line.specs.declared.Line.TheVariants.{Numbers, Bad}
+use Rattle.std.proofs.Common.{None}
 use Rattle.line.proofs.Ends.{line_inside}
 use Rattle.book.specs.Format.{bytes_of, number_in}
 use Rattle.book.proofs.Bytes.{bytes_long, number_back}
@@ -46,43 +45,34 @@ word_here {xs} {ys} i x small room p =
     ap (λ zs. number_in (drop (8 * i) zs)) taken ∙ ap number_in (drop_at (take (8 * i) xs) text (8 * i) (length-take-le (8 * i) xs (omega arith))) ∙
     number_back 8 x (omega arith)
 
--- ---- what a line was read as
-
-pub says_read : {xs : List ℕ} {line : Line} {n k r t : ℕ} → Reads xs line → line ≡ Numbers n k r t → Says xs n k r t
-unfolding Reads
-says_read reads e = rw e at reads
-
-pub bad_read : (xs : List ℕ) {line : Line} → Reads xs line → line ≡ Bad → Reads xs Bad
-bad_read xs reads e = rw e at reads
-
 -- ---- all lines, one by one
 
 -- the first i lines are taken, and end before place `from`
-pub record Going (xs ns₀ ks₀ ranks₀ counts₀ ns ks ranks counts : List ℕ) (from i : ℕ) : Type 0 where
+pub record Going (xs ns ks ranks counts : List ℕ) (from i : ℕ) : Type 0 where
   pub few : i ≤ most_lines
   pub inside : from ≤ length xs
   pub there : drop from xs ≡ behind i xs
-  pub ns_long : length ns ≡ length ns₀
-  pub ks_long : length ks ≡ length ks₀
-  pub ranks_long : length ranks ≡ length ranks₀
-  pub counts_long : length counts ≡ length counts₀
+  pub ns_long : length ns ≡ most_lines
+  pub ks_long : length ks ≡ most_lines
+  pub ranks_long : length ranks ≡ 8 * most_lines
+  pub counts_long : length counts ≡ 8 * most_lines
   pub held : (h : ℕ) → h < i → Held xs ns ks ranks counts h
 
-pub going_first : {xs ns ks ranks counts : List ℕ} → Going xs ns ks ranks counts ns ks ranks counts 0 0
+pub going_first : {xs ns ks ranks counts : List ℕ} → length ns ≡ most_lines → length ks ≡ most_lines → length ranks ≡ 8 * most_lines →
+    length counts ≡ 8 * most_lines → Going xs ns ks ranks counts 0 0
 unfolding behind
-going_first = record {
+going_first ns_long ks_long ranks_long counts_long = record {
   few = omega arith;
   inside = omega arith;
   there = refl;
-  ns_long = refl;
-  ks_long = refl;
-  ranks_long = refl;
-  counts_long = refl;
+  ns_long = ns_long;
+  ks_long = ks_long;
+  ranks_long = ranks_long;
+  counts_long = counts_long;
   held = λ h l. absurd (omega arith);
 }
 
-module _ {xs ns₀ ks₀ ranks₀ counts₀ ns ks ranks counts : List ℕ} {from i end : ℕ} (so : Going xs ns₀ ks₀ ranks₀ counts₀ ns ks ranks counts from i)
-    (end_is : end ≡ from + line_long (drop from xs)) where
+module _ {xs ns ks ranks counts : List ℕ} {from i end : ℕ} (so : Going xs ns ks ranks counts from i) (end_is : end ≡ from + line_long (drop from xs)) where
   pub end_inside : end ≤ length xs
   end_inside = omega (arith, line_inside (drop from xs), length-drop from xs, so.inside)
 
@@ -98,7 +88,7 @@ module _ {xs ns₀ ks₀ ranks₀ counts₀ ns ks ranks counts : List ℕ} {from
       rw (add-one, behind) (ap (λ p. drop p xs) end_is ∙ sym (drop-drop (line_long (drop from xs)) from xs) ∙ ap (λ ys. drop (line_long ys) ys) so.there)
 
   -- a line that says nothing
-  pub failing : i < most_lines → from < length xs → Reads (take (end - from) (drop from xs)) Bad → Failing xs ns ks ranks counts (i + 1)
+  pub failing : i < most_lines → from < length xs → Reads (take (end - from) (drop from xs)) None → Failing xs ns ks ranks counts (i + 1)
   failing few l reads = record {
     i = i;
     is = refl;
@@ -109,8 +99,7 @@ module _ {xs ns₀ ks₀ ranks₀ counts₀ ns ks ranks counts : List ℕ} {from
   }
 
   -- and one that says a stretch
-  module _ {n k r t p q : ℕ} {ranks' counts' : List ℕ} (some : i < most_lines) (ns_room : most_lines ≤ length ns₀) (ks_room : most_lines ≤ length ks₀)
-      (ranks_room : 8 * most_lines ≤ length ranks₀) (counts_room : 8 * most_lines ≤ length counts₀) (says : Says (take (end - from) (drop from xs)) n k r t)
+  module _ {n k r t p q : ℕ} {ranks' counts' : List ℕ} (some : i < most_lines) (says : Says (take (end - from) (drop from xs)) n k r t)
       (ranks_put : Put ranks (8 * i) (bytes_of 8 r) p ranks') (counts_put : Put counts (8 * i) (bytes_of 8 t) q counts') where
     held_here : Held xs (set ns i (in_byte_lem n)) (set ks i (in_byte_lem k)) ranks' counts' i
     held_here =
@@ -138,7 +127,7 @@ module _ {xs ns₀ ks₀ ranks₀ counts₀ ns ks ranks counts : List ℕ} {from
         }
 
     pub going_on : {nb kb : ℕ} → nb ≡ in_byte_lem n → kb ≡ in_byte_lem k →
-        Going xs ns₀ ks₀ ranks₀ counts₀ (set ns i nb) (set ks i kb) ranks' counts' end (i + 1)
+        Going xs (set ns i nb) (set ks i kb) ranks' counts' end (i + 1)
     going_on n_is k_is = rw (n_is, k_is) (record {
       few = omega arith;
       inside = end_inside;
@@ -153,6 +142,6 @@ module _ {xs ns₀ ks₀ ranks₀ counts₀ ns ks ranks counts : List ℕ} {from
     })
 
 -- the lines are over, or there are as many as are looked at
-pub taking : {xs ns₀ ks₀ ranks₀ counts₀ ns ks ranks counts : List ℕ} {from i : ℕ} → Going xs ns₀ ks₀ ranks₀ counts₀ ns ks ranks counts from i →
+pub taking : {xs ns ks ranks counts : List ℕ} {from i : ℕ} → Going xs ns ks ranks counts from i →
     (i < most_lines → length xs ≤ from) → Taking xs ns ks ranks counts i
 taking {xs} so over = record { few = so.few; held = so.held; all = λ l. sym so.there ∙ drop_of_length-le xs (over l) }

@@ -1,17 +1,14 @@
 -- W-201, the input of the writer of books: a line for each stretch, in the grammar of 01's listing. Lines are counted from 0 here, so
 -- that line i is the planner's line i + 1.
-use Rattle.std.specs.Prelude.{ℕ, zero, suc, ◌+◌, ◌*◌, ◌≤◌, ◌<◌, ◌≡◌, List, [], length, take, drop}
+use Rattle.std.specs.Prelude.{ℕ, zero, suc, ◌+◌, ◌*◌, ◌≤◌, ◌<◌, ◌≡◌, List, [], ◌++◌, length, take, drop, Result, Ok, Err, None}
 use Rattle.rows.specs.Row.{at}
 use Rattle.rows.specs.Search.{if_lt}
-use Rattle.sizes.specs.declared.Verdict.{Verdict}
-use Rattle.sizes.specs.declared.Verdict.TheVariants.{Refused}
+use Rattle.sizes.specs.declared.Fault.TheVariants.{Line}
+use Rattle.sizes.specs.declared.Refusal.{Refusal}
+use Rattle.sizes.specs.Refusal.{Verdict}
+use Rattle.sizes.specs.Outcome.{answered, left}
 use Rattle.line.specs.Line.{Says, Reads, line_long}
-use Rattle.line.specs.declared.Line.TheVariants.{Bad as no_line}
-use Rattle.print.specs.declared.Printed.{Printed}
-use Rattle.print.specs.Prints.{Prints}
 use Rattle.writer.specs.Write.{Lists, lists, word_at, book_lent, write_verdict}
-use Rattle.book_write.specs.declared.Taken.{Taken}
-use Rattle.book_write.specs.declared.Taken.TheVariants.{Stretches, Bad}
 
 -- ---- lines
 
@@ -61,28 +58,30 @@ pub record Failing (xs ns ks ranks counts : List ℕ) (line : ℕ) : Type 0 wher
   pub few : i < most_lines
   pub held : (h : ℕ) → h < i → Held xs ns ks ranks counts h
   pub some : 1 ≤ length (behind i xs)
-  pub bad : Reads (line_at i xs) no_line
+  pub bad : Reads (line_at i xs) None
 
--- what is taken of the input xs: so many stretches in the four lists, or a bad line
-unfoldable pub Takes : List ℕ → List ℕ → List ℕ → List ℕ → List ℕ → Taken → Type 0
-Takes xs ns ks ranks counts (Stretches m) = Taking xs ns ks ranks counts m
-Takes xs ns ks ranks counts (Bad line) = Failing xs ns ks ranks counts line
+-- what is taken of the input xs: so many stretches in the four lists, or a line that is refused
+unfoldable pub Takes : List ℕ → List ℕ → List ℕ → List ℕ → List ℕ → Result ℕ Refusal → Type 0
+Takes xs ns ks ranks counts (Ok m) = Taking xs ns ks ranks counts m
+Takes xs ns ks ranks counts (Err refusal) = (refusal.fault ≡ Line) × Failing xs ns ks ranks counts refusal.place
 
 -- ---- what is printed of it
 
 -- 17 first, with the line's number for place, and then what the writer refuses
-unfoldable pub taken_verdict : Taken → Lists → List ℕ → Verdict
-taken_verdict (Bad line) l buffer = Refused 17 line
-taken_verdict (Stretches m) l buffer = write_verdict (listed m l.ns l.ks l.ranks l.counts) buffer
+unfoldable pub taken_verdict : Result ℕ Refusal → Lists → List ℕ → Verdict
+taken_verdict (Err refusal) l buffer = Err refusal
+taken_verdict (Ok m) l buffer = write_verdict (listed m l.ns l.ks l.ranks l.counts) buffer
 
 -- the book of the stretches that were taken
-unfoldable pub taken_book : Taken → Lists → List ℕ
-taken_book (Bad line) l = []
-taken_book (Stretches m) l = book_lent (listed m l.ns l.ks l.ranks l.counts)
+unfoldable pub taken_book : Result ℕ Refusal → Lists → List ℕ
+taken_book (Err refusal) l = []
+taken_book (Ok m) l = book_lent (listed m l.ns l.ks l.ranks l.counts)
 
--- of any input xs that book is printed, or the refusal, from lists that have what the lines of xs say
-pub record Answers (xs before : List ℕ) (r : Printed) (after : List ℕ) : Type 0 where
+-- of any input xs the answer is the length of that book, or the refusal, from lists that have what the lines of xs say. The whole buffer
+-- is said: the book is written from its first byte on, and the bytes behind it are as they were; where xs is refused, all of them are
+pub record Answers (xs before : List ℕ) (r : Result ℕ Refusal) (after : List ℕ) : Type 0 where
   pub l : Lists
-  pub taken : Taken
+  pub taken : Result ℕ Refusal
   pub takes : Takes xs l.ns l.ks l.ranks l.counts taken
-  pub prints : Prints (taken_verdict taken l before) (taken_book taken l) before r after
+  pub answer_is : r ≡ answered (taken_verdict taken l before) (length (taken_book taken l))
+  pub after_is : after ≡ left (taken_verdict taken l before) before (taken_book taken l ++ drop (length (taken_book taken l)) before)

@@ -10,7 +10,7 @@ unfoldable pub entry_number : List ℕ → ℕ → ℕ
 entry_number xs entry = n_of xs (entry - 1) + 256 * k_of xs (entry - 1)
 
 -- its arrangement is written
-unfoldable pub entry_leaves : List ℕ → ℕ → List ℕ → List ℕ → Outcome
+unfoldable pub entry_leaves : List ℕ → ℕ → List ℕ → List ℕ → Outcome ℕ
 entry_leaves xs entry ms ss =
     outcome (lent_entry_verdict format_one xs entry ms ss) (entry_number xs entry) ms ss
     (row (modules_of format_one xs (entry - 1)) (n_of xs (entry - 1))) (row (settings_of format_one xs (entry - 1)) (n_of xs (entry - 1)))

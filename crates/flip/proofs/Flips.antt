@@ -7,7 +7,8 @@ use native.Mathlib.Nat.{mod-lt, mod-eq_of_lt, mod_self}
 use native.Mathlib.Omega.{arith}
 use lib.ListN.{length}
 use Rattle.rows.proofs.Cases.{by_lt, if_lt_lem, if_ge, inside}
-use Rattle.sizes.specs.declared.Verdict.TheVariants.{Fine}
+use Rattle.sizes.specs.declared.Fault.TheVariants.{Flip}
+use Rattle.sizes.specs.Refusal.{fine}
 use Rattle.sizes.proofs.Refusals.{both_fine, no_fault, Small, small_first, small_if}
 use Rattle.arrangement.specs.Arrangement.{Valid}
 use Rattle.arrangement.specs.Check.{lent_verdict}
@@ -85,12 +86,12 @@ flipped_valid {n} {k} {j} {M} {S} k_low h v = record {
 -- ---- the check of a flip
 
 -- a flip that is not refused can be made
-pub flippable : (n k j : ℕ) (ms ss : List ℕ) → flip_verdict n k j ms ss ≡ Fine → Flippable k j ms ss
+pub flippable : (n k j : ℕ) (ms ss : List ℕ) → flip_verdict n k j ms ss ≡ fine → Flippable k j ms ss
 unfolding flip_verdict flip_length_verdict
 flippable n k j ms ss e =
     let both = both_fine (lent_verdict n k ms ss) _ e in
     let a = accepted n k ms ss both.0 in
-    let range = inside 1 n j (no_fault 9 _ both.1) in
+    let range = inside 1 n j (no_fault Flip _ both.1) in
     record {
       k_high = a.sizes.k_high;
       j_high = omega arith;
@@ -100,7 +101,7 @@ flippable n k j ms ss e =
     }
 
 -- and is one of two buffers of n bytes
-pub flip_lengths : (n k j : ℕ) (ms ss : List ℕ) → flip_verdict n k j ms ss ≡ Fine → (length ms ≡ n) × (length ss ≡ n)
+pub flip_lengths : (n k j : ℕ) (ms ss : List ℕ) → flip_verdict n k j ms ss ≡ fine → (length ms ≡ n) × (length ss ≡ n)
 unfolding flip_verdict
 flip_lengths n k j ms ss e =
     let a = accepted n k ms ss (both_fine (lent_verdict n k ms ss) _ e).0 in (a.modules, a.settings)
@@ -108,4 +109,4 @@ flip_lengths n k j ms ss e =
 -- its numbers and places fit a byte each
 pub small_flip : (n k j : ℕ) (ms ss : List ℕ) → Small (flip_verdict n k j ms ss)
 unfolding flip_verdict flip_length_verdict
-small_flip n k j ms ss = small_first _ _ (small_lent n k ms ss) (λ fine. small_if 9 _ (omega arith))
+small_flip n k j ms ss = small_first _ _ (small_lent n k ms ss) (λ passed. small_if Flip _)

@@ -3,8 +3,8 @@
 use Rattle.std.specs.Prelude.{ℕ, suc, ◌+◌, ◌-◌, ◌%◌, ◌≤◌, ◌<◌, List, length}
 use Rattle.rows.specs.Row.{at, row}
 use Rattle.rows.specs.Search.{if_lt, outside}
-use Rattle.sizes.specs.declared.Verdict.{Verdict}
-use Rattle.sizes.specs.Refusal.{first, refused_if}
+use Rattle.sizes.specs.declared.Fault.TheVariants.{Flip}
+use Rattle.sizes.specs.Refusal.{Verdict, first, refused_if}
 use Rattle.sizes.specs.Outcome.{Outcome, outcome}
 use Rattle.sizes.specs.Sizes.{most_slots, most_settings}
 use Rattle.arrangement.specs.Check.{lent_verdict}
@@ -34,13 +34,13 @@ pub record Flippable (k j : ℕ) (ms ss : List ℕ) : Type 0 where
 
 -- 9: a flip length is 0 or above n
 unfoldable pub flip_length_verdict : ℕ → ℕ → Verdict
-flip_length_verdict n j = refused_if 9 (outside 1 n j)
+flip_length_verdict n j = refused_if Flip (outside 1 n j)
 
 -- the check of a flip of length j of an arrangement in two lent buffers: 1 to 7, and 9
 unfoldable pub flip_verdict : ℕ → ℕ → ℕ → List ℕ → List ℕ → Verdict
 flip_verdict n k j ms ss = first (lent_verdict n k ms ss) (flip_length_verdict n j)
 
 -- what a flip leaves: the arrangement flipped
-unfoldable pub flip_leaves : ℕ → ℕ → ℕ → List ℕ → List ℕ → Outcome
+unfoldable pub flip_leaves : ℕ → ℕ → ℕ → List ℕ → List ℕ → Outcome Unit
 flip_leaves n k j ms ss =
-    outcome (flip_verdict n k j ms ss) 0 ms ss (row (flipped_modules j (at ms)) n) (row (flipped_settings k j (at ss)) n)
+    outcome (flip_verdict n k j ms ss) tt ms ss (row (flipped_modules j (at ms)) n) (row (flipped_settings k j (at ss)) n)

@@ -1,52 +1,43 @@
 -- The laws of answers. A promise is made of equations, or shows the one reading that there is, so two outcomes that keep it are
 -- equal; the number and the place of a verdict are below 256, so the three parts of the one number stand in bits of their own.
 -- Assumes nothing.
+use Rattle.std.proofs.Common.{Result, Ok, Err}
+use Rattle.std.specs.Result.{IfOk, result_unwrap_or}
+use Rattle.board.specs.Read.{rank_read}
 use Prim.Native.Nat.{ℕ, ◌+◌, ◌*◌, ◌^◌, ◌/◌, ◌%◌, ◌≤◌, ◌<◌}
-use mathlib.Core.Path.{◌≡◌, refl, sym, ◌∙◌, ap, ap₂}
-use mathlib.Core.Bool.{Bool, true, false}
+use mathlib.Core.Path.{◌≡◌, refl, sym, ◌∙◌, ap}
 use mathlib.Core.List.{List}
 use native.Mathlib.Omega.{arith}
 use lib.Arith.{digits_div, digits_mod}
-use Rattle.sizes.specs.declared.Verdict.{Verdict}
-use Rattle.sizes.specs.declared.Verdict.TheVariants.{Fine, Refused}
-use Rattle.sizes.specs.declared.Told.{Told}
-use Rattle.sizes.specs.Refusal.{refuses, number_of, place_of, unless_refused}
-use Rattle.sizes.specs.Outcome.{Outcome, outcome, Does}
+use Rattle.sizes.specs.declared.Refusal.{Refusal}
+use Rattle.sizes.specs.Refusal.{Verdict, fine, number_of, place_of}
+use Rattle.sizes.specs.Outcome.{answered, left, Outcome, outcome, Does}
 use Rattle.sizes.proofs.Refusals.{Small}
-use Rattle.sizes.proofs.Outcomes.{refused_does, done_does, told_high}
-use Rattle.board.specs.declared.read.Reading.{Reading}
 use Rattle.board.proofs.Readings.{one_reading}
 use Rattle.limpet.specs.Calls.{ReadReturns}
-use Rattle.limpet.specs.Answer.{Answer, answer_of, packed, unpacked, Returns, Leaves, Writes}
+use Rattle.limpet.specs.Answer.{Answer, answer_of, no_value, own_value, packed, unpacked, Returns, Leaves, Writes}
 
 -- ---- one outcome
 
 pub one_number : {x r s : ℕ} → Returns x r → Returns x s → r ≡ s
 one_number p q = p.returned_is ∙ sym q.returned_is
 
-pub one_outcome : {o : Outcome} {r s : ℕ} {a b c d : List ℕ} → Leaves o r a b → Leaves o s c d → (r ≡ s) × (a ≡ c) × (b ≡ d)
+pub one_outcome : {A : Type 0} {value : A → ℕ} {o : Outcome A} {r s : ℕ} {a b c d : List ℕ} →
+    Leaves value o r a b → Leaves value o s c d → (r ≡ s) × (a ≡ c) × (b ≡ d)
 one_outcome p q = (
   p.returned_is ∙ sym q.returned_is,
   p.one_is ∙ sym q.one_is,
   p.two_is ∙ sym q.two_is,
 )
 
-pub one_writing : {t : Told} {w : List ℕ} {r s : ℕ} {a b : List ℕ} → Writes t w r a → Writes t w s b → (r ≡ s) × (a ≡ b)
+pub one_writing : {t : Result ℕ Refusal} {w : List ℕ} {r s : ℕ} {a b : List ℕ} → Writes t w r a → Writes t w s b → (r ≡ s) × (a ≡ b)
 one_writing p q = (p.returned_is ∙ sym q.returned_is, p.buffer_is ∙ sym q.buffer_is)
 
-pub one_read : {shown : Reading → ℕ} {n k : ℕ} {cs fs : List ℕ} {r s : ℕ} → ReadReturns shown n k cs fs r → ReadReturns shown n k cs fs s → r ≡ s
+pub one_read : {shown : Result ℕ Refusal → ℕ} {n k : ℕ} {cs fs : List ℕ} {r s : ℕ} → ReadReturns shown n k cs fs r → ReadReturns shown n k cs fs s → r ≡ s
 one_read {shown} {n} {k} {cs} {fs} p q =
     p.returned_is ∙ ap shown (one_reading n k cs fs p.reading q.reading p.reads q.reads) ∙ sym q.returned_is
 
 -- ---- the packing
-
-pub packed_fine : (value : ℕ) → 65536 * value ≡ packed (answer_of Fine value)
-unfolding packed answer_of number_of place_of unless_refused
-packed_fine value = omega arith
-
-pub packed_refused : (number place value : ℕ) → number + 256 * place ≡ packed (answer_of (Refused number place) value)
-unfolding packed answer_of number_of place_of unless_refused
-packed_refused number place value = omega arith
 
 -- what was packed is taken apart again, where number and place fit a byte each
 pub unpacked_packed : (a : Answer) → a.number < 256 → a.place < 256 → unpacked (packed a) ≡ a
@@ -67,52 +58,70 @@ unfolding packed
 packed_fits a number_small place_small value_small = omega arith
 
 -- so the host has the answer of every call whose verdict is small
-pub told : (v : Verdict) (value : ℕ) → Small v → unpacked (packed (answer_of v value)) ≡ answer_of v value
-unfolding answer_of
-told v value small = unpacked_packed (answer_of v value) small.number small.place
+pub told : {A : Type 0} (value : A → ℕ) (v : Verdict) (x : A) → Small v →
+    unpacked (packed (answer_of value (answered v x))) ≡ answer_of value (answered v x)
+unfolding answer_of answered number_of place_of
+told value (Ok done) x small = unpacked_packed (answer_of value (Ok x)) (omega arith) (omega arith)
+told {A} value (Err refusal) x small = unpacked_packed (answer_of {A = A} value (Err refusal)) small.number small.place
+
+pub verdict_told : (v : Verdict) → Small v → unpacked (packed (answer_of no_value v)) ≡ answer_of no_value v
+unfolding answer_of number_of place_of
+verdict_told (Ok done) small = unpacked_packed (answer_of no_value (Ok done)) (omega arith) (omega arith)
+verdict_told (Err refusal) small = unpacked_packed (answer_of no_value (Err refusal)) small.number small.place
 
 -- ---- the calls
 
--- a call that writes nothing and packs the value x with the verdict v
-pub judged : {v check : Verdict} {r x value : ℕ} → v ≡ check → x ≡ value → r ≡ packed (answer_of v x) → Returns (packed (answer_of check value)) r
-judged v_is x_is r_is = record { returned_is = r_is ∙ ap₂ (λ (w : Verdict) (y : ℕ). packed (answer_of w y)) v_is x_is }
+-- what is shown of a reading's rank
+pub rank_shown : (reading : Result ℕ Refusal) → result_unwrap_or reading 0 ≡ rank_read reading
+unfolding rank_read
+rank_shown (Ok r) = refl
+rank_shown (Err refusal) = refl
 
--- a call that was refused, as t told: whatever value was packed with the verdict v, none shows
-pub refused_returns : {v check : Verdict} {t : Bool} {r : ℕ} (value x : ℕ) → v ≡ check → t ≡ refuses v → t ≡ true → r ≡ packed (answer_of v x) → Returns (packed (answer_of check value)) r
-unfolding refuses answer_of unless_refused
-refused_returns {v = Fine} value x v_is t_is t_true r_is =
-    let z : ◌≡◌ {A = Bool} true false = sym t_true ∙ t_is in
-    let n : ◌≡◌ {A = ℕ} 0 1 = cc in absurd (omega arith)
-refused_returns {v = Refused number place} value x v_is t_is t_true r_is = rw (← v_is) (record { returned_is = r_is })
+-- a call that packs the refusal r of its check, whatever value it has where it is done
+pub refused_returns : {check : Verdict} {r : Refusal} {x : ℕ} (value : ℕ) → Err r ≡ check → x ≡ packed (answer_of own_value (Err r)) →
+    Returns (packed (answer_of own_value (answered check value))) x
+unfolding answered
+refused_returns value e x_is = rw (← e) (record { returned_is = x_is })
+
+-- and one that packs its value
+pub done_returns : {check : Verdict} {x y value : ℕ} → fine ≡ check → y ≡ value → x ≡ packed (answer_of own_value (Ok y)) →
+    Returns (packed (answer_of own_value (answered check value))) x
+unfolding answered
+done_returns e y_is x_is = rw (← e, ← y_is) (record { returned_is = x_is })
 
 -- a call that writes leaves what the floor below left, with its answer packed
-pub does_leaves : {o : Outcome} {told : Told} {r : ℕ} {a b : List ℕ} → Does o told a b → r ≡ packed (answer_of told.verdict told.number) → Leaves o r a b
-does_leaves does r_is = record {
-  returned_is = r_is ∙ ap₂ (λ (w : Verdict) (y : ℕ). packed (answer_of w y)) does.verdict_is does.number_is;
+pub does_leaves : {A : Type 0} (value : A → ℕ) {o : Outcome A} {told : Result A Refusal} {r : ℕ} {a b : List ℕ} →
+    Does o told a b → r ≡ packed (answer_of value told) → Leaves value o r a b
+does_leaves value does r_is = record {
+  returned_is = r_is ∙ ap (λ t. packed (answer_of value t)) does.answer_is;
   one_is = does.one_is;
   two_is = does.two_is;
 }
 
 -- and so does a call that writes one buffer
-pub tells_writes : {t told : Told} {w buffer : List ℕ} {r : ℕ} → told ≡ t → buffer ≡ w → r ≡ packed (answer_of told.verdict told.number) → Writes t w r buffer
-tells_writes told_is buffer_is r_is = record {
-  returned_is = r_is ∙ ap (λ (x : Told). packed (answer_of x.verdict x.number)) told_is;
-  buffer_is = buffer_is;
-}
+pub tells_writes : {t told : Result ℕ Refusal} {w buffer : List ℕ} {r : ℕ} → told ≡ t → buffer ≡ w → r ≡ packed (answer_of own_value told) → Writes t w r buffer
+tells_writes told_is buffer_is r_is = record { returned_is = r_is ∙ ap (λ t. packed (answer_of own_value t)) told_is; buffer_is = buffer_is }
 
--- its number fits the bits above the place, where it is at most so much in a call that was done
-pub number_fits : {v : Verdict} {x number : ℕ} (most : ℕ) → number ≡ unless_refused v x → (v ≡ Fine → x ≤ most) → most < 2 ^ 48 → number < 2 ^ 48
-number_fits {v} {x} most is high fits = omega (arith, is, told_high v x most high)
+-- its value fits the bits above the place, where it is at most so much in a call that was done
+pub value_fits : {v : Verdict} {x : ℕ} {answer : Result ℕ Refusal} (most : ℕ) → answer ≡ answered v x → (v ≡ fine → x ≤ most) → most < 2 ^ 48 →
+    IfOk answer (λ value. value < 2 ^ 48)
+unfolding answered
+value_fits {v} {x} most is high fits = rw is (go v high)
+  where
+    go : (v : Verdict) → (v ≡ fine → x ≤ most) → IfOk (answered v x) (λ value. value < 2 ^ 48)
+    go (Ok done) high = let low = high refl in omega arith
+    go (Err refusal) high = tt
 
--- the same of a call that judges by itself: where it was refused, as t told, whatever value was packed with the verdict v
-pub refused_leaves : {v check : Verdict} {t : Bool} {r : ℕ} {a b : List ℕ} (number x : ℕ) (one two one_written two_written : List ℕ) →
-    v ≡ check → t ≡ refuses v → t ≡ true → r ≡ packed (answer_of v x) → a ≡ one → b ≡ two → Leaves (outcome check number one two one_written two_written) r a b
-refused_leaves number x one two one_written two_written v_is t_is t_true r_is a_is b_is =
-    does_leaves (refused_does number one two one_written two_written v_is t_is t_true a_is b_is) (refused_returns 0 x refl t_is t_true r_is).returned_is
+-- the same of a call that judges by itself: where it was refused
+pub refused_leaves : {check : Verdict} {r : Refusal} {x : ℕ} {a b : List ℕ} (value : ℕ) (one two one_written two_written : List ℕ) →
+    Err r ≡ check → x ≡ packed (answer_of own_value (Err r)) → a ≡ one → b ≡ two → Leaves own_value (outcome check value one two one_written two_written) x a b
+unfolding outcome left answered
+refused_leaves value one two one_written two_written e x_is a_is b_is = rw (← e) (record { returned_is = x_is; one_is = a_is; two_is = b_is })
 
 -- and where it was done
-pub done_leaves : {v check : Verdict} {t : Bool} {r : ℕ} {a b : List ℕ} (number : ℕ) (one two one_written two_written : List ℕ) →
-    v ≡ check → t ≡ refuses v → t ≡ false → r ≡ packed (answer_of v number) → a ≡ one_written → b ≡ two_written →
-    Leaves (outcome check number one two one_written two_written) r a b
-done_leaves number one two one_written two_written v_is t_is t_false r_is a_is b_is =
-    does_leaves (done_does number one two one_written two_written v_is t_is t_false refl a_is b_is) r_is
+pub done_leaves : {check : Verdict} {x y value : ℕ} {a b : List ℕ} (one two one_written two_written : List ℕ) →
+    fine ≡ check → y ≡ value → x ≡ packed (answer_of own_value (Ok y)) → a ≡ one_written → b ≡ two_written →
+    Leaves own_value (outcome check value one two one_written two_written) x a b
+unfolding outcome left answered
+done_leaves one two one_written two_written e y_is x_is a_is b_is =
+    rw (← e, ← y_is) (record { returned_is = x_is; one_is = a_is; two_is = b_is })

@@ -2,7 +2,9 @@
 ghost use Rattle.limpet.specs.Answer.{Returns};
 ghost use Rattle.limpet.specs.Calls.{pair_returns};
 
-use crate::answer::pack;
+use crate::answer::{pack_refusal, pack_value};
+use stretch::Stretch;
+use stretch::pair::Pair;
 
 pub fn limpet_pair_count(
     n: usize,
@@ -16,9 +18,10 @@ pub fn limpet_pair_count(
 ) -> u64
     ensures { Returns (pair_returns n k rank t v c w e) result }
 {
-    let verdict = stretch::pair::judge(n, k, rank, t, v, c, w, e);
-    if verdict.refuses() {
-        return pack(verdict, 0);
+    let stretch = Stretch { n, k, rank, t };
+    let pair = Pair { v, c, w, e };
+    match stretch::pair::judge(stretch, pair) {
+        Ok(()) => pack_value(stretch::pair::count(stretch, pair)),
+        Err(refusal) => pack_refusal(refusal),
     }
-    pack(verdict, stretch::pair::count(n, k, rank, t, v, c, w, e))
 }

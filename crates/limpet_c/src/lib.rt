@@ -2,7 +2,7 @@
 // promises; none has a `requires`.
 #![tactic(auto)]
 
-ghost use Rattle.limpet.specs.Answer.{Returns, Leaves, Writes};
+ghost use Rattle.limpet.specs.Answer.{Returns, Leaves, Writes, no_value, own_value};
 ghost use Rattle.limpet.specs.Calls.{round_returns, total_returns, check_returns, rank_value_returns, look_returns, ReadReturns, verdict_shown, pair_returns, book_count_returns, book_rank_returns};
 ghost use Rattle.flip.specs.Flip.{flip_leaves};
 ghost use Rattle.unrank.specs.Unrank.{unrank_leaves};
@@ -44,7 +44,7 @@ pub extern "C" fn limpet_flip(
     modules: &mut [u8],
     settings: &mut [u8],
 ) -> u64
-    ensures { Leaves (flip_leaves n k j modules.old settings.old) result modules.new settings.new }
+    ensures { Leaves no_value (flip_leaves n k j modules.old settings.old) result modules.new settings.new }
 {
     of_arrangements::limpet_flip(n, k, j, modules, settings)
 }
@@ -71,7 +71,7 @@ pub extern "C" fn limpet_unrank(
     modules: &mut [u8],
     settings: &mut [u8],
 ) -> u64
-    ensures { Leaves (unrank_leaves n k rank modules.old settings.old) result modules.new settings.new }
+    ensures { Leaves no_value (unrank_leaves n k rank modules.old settings.old) result modules.new settings.new }
 {
     of_ranks::limpet_unrank(n, k, rank, modules, settings)
 }
@@ -85,7 +85,7 @@ pub extern "C" fn limpet_look(n: usize, k: usize, modules: &[u8], settings: &[u8
 
 #[unsafe(no_mangle)]
 pub extern "C" fn limpet_next(n: usize, k: usize, modules: &mut [u8], settings: &mut [u8]) -> u64
-    ensures { Leaves (next_leaves n k modules.old settings.old) result modules.new settings.new }
+    ensures { Leaves own_value (next_leaves n k modules.old settings.old) result modules.new settings.new }
 {
     of_looks::limpet_next(n, k, modules, settings)
 }
@@ -98,7 +98,7 @@ pub extern "C" fn limpet_board_write(
     counters: &mut [u8],
     pointers: &mut [u8],
 ) -> u64
-    ensures { Leaves (board_leaves n k rank counters.old pointers.old) result counters.new pointers.new }
+    ensures { Leaves no_value (board_leaves n k rank counters.old pointers.old) result counters.new pointers.new }
 {
     of_boards::limpet_board_write(n, k, rank, counters, pointers)
 }
@@ -110,7 +110,7 @@ pub extern "C" fn limpet_board_step(
     counters: &mut [u8],
     pointers: &mut [u8],
 ) -> u64
-    ensures { Leaves (step_leaves n k counters.old pointers.old) result counters.new pointers.new }
+    ensures { Leaves own_value (step_leaves n k counters.old pointers.old) result counters.new pointers.new }
 {
     of_boards::limpet_board_step(n, k, counters, pointers)
 }
@@ -157,7 +157,7 @@ pub extern "C" fn limpet_book_read(
     modules: &mut [u8],
     settings: &mut [u8],
 ) -> u64
-    ensures { Leaves (entry_leaves book.now entry modules.old settings.old) result modules.new settings.new }
+    ensures { Leaves own_value (entry_leaves book.now entry modules.old settings.old) result modules.new settings.new }
 {
     of_books::limpet_book_read(book, entry, modules, settings)
 }

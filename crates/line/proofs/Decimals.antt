@@ -53,9 +53,6 @@ long_one x h = ap length (decimal_one x h)
 pub long_more : (x : ℕ) → 10 ≤ x → x ≤ most → length (decimal x) ≡ length (decimal (x / 10)) + 1
 long_more x h high = ap length (decimal_more x h high) ∙ length-append (decimal (x / 10)) ((48 + x % 10) ∷ [])
 
-pub long_some : (x : ℕ) → x ≤ most → 1 ≤ length (decimal x)
-long_some x h = by_lt x 10 (λ l. omega (arith, long_one x l)) (λ l. omega (arith, long_more x l h))
-
 pub long_below : (m x : ℕ) → x ≤ most → x < 10 ^ suc m → length (decimal x) ≤ suc m
 long_below zero x h l = omega (arith, long_one x (omega arith))
 long_below (suc m) x h l =

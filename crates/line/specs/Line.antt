@@ -1,11 +1,9 @@
 -- 01, the listing: its input. What is taken is what printing four numbers gives, and nothing else.
-use Rattle.std.specs.Prelude.{ℕ, suc, ◌≤◌, ◌+◌, ◌*◌, ◌-◌, ◌≡◌, Bool, false, cond, List, [], ◌∷◌, ◌++◌, leb, eqb, length, drop}
+use Rattle.std.specs.Prelude.{ℕ, suc, ◌≤◌, ◌+◌, ◌*◌, ◌-◌, ◌≡◌, Bool, false, cond, List, [], ◌∷◌, ◌++◌, leb, eqb, None, Some}
+use Rattle.std.specs.declared.option.Option.{Option}
 use Rattle.rows.specs.Search.{outside}
 use Rattle.line.specs.Decimal.{most, ended, numbers_line}
-use Rattle.line.specs.declared.Line.{Line}
-use Rattle.line.specs.declared.Line.TheVariants.{Numbers, Bad}
-use Rattle.line.specs.declared.Part.{Part}
-use Rattle.line.specs.declared.Part.TheVariants.{Number, Nothing}
+use Rattle.line.specs.declared.Numbers.{Numbers}
 
 -- the input xs is the line of four numbers, each at most 2 ^ 64 - 1
 pub record Says (xs : List ℕ) (n k r t : ℕ) : Type 0 where
@@ -16,9 +14,9 @@ pub record Says (xs : List ℕ) (n k r t : ℕ) : Type 0 where
   pub bytes : xs ≡ numbers_line n k r t
 
 -- what the reading of any input answers: the four numbers whose line it is, or that it is the line of no four numbers
-unfoldable pub Reads : List ℕ → Line → Type 0
-Reads xs (Numbers n k r t) = Says xs n k r t
-Reads xs Bad = (n k r t : ℕ) → Says xs n k r t → ⊥
+unfoldable pub Reads : List ℕ → Option Numbers → Type 0
+Reads xs (Some v) = Says xs v.n v.k v.rank v.count
+Reads xs None = (n k r t : ℕ) → Says xs n k r t → ⊥
 
 -- ---- how it is read
 
@@ -26,16 +24,14 @@ Reads xs Bad = (n k r t : ℕ) → Says xs n k r t → ⊥
 unfoldable pub goes_on_lem : ℕ → ℕ → Bool
 goes_on_lem v byte = cond (outside 48 57 byte) false (cond (eqb v 0) false (leb (v * 10 + (byte - 48)) most))
 
--- the bytes from place `from` on begin with the number v and the byte `end`, behind which is place `next`
-pub record NumberAt (xs : List ℕ) (from end v next : ℕ) : Type 0 where
+-- the bytes begin with the number v and the byte `end`, behind which is `rest`
+pub record NumberAt (xs : List ℕ) (end v : ℕ) (rest : List ℕ) : Type 0 where
   pub high : v ≤ most
-  pub inside : next ≤ length xs
-  pub bytes : drop from xs ≡ ended v end ++ drop next xs
+  pub bytes : xs ≡ ended v end ++ rest
 
--- what the reading of one number answers: the number and the place behind it, or that the bytes begin with no number that ends so
-unfoldable pub ReadsPart : List ℕ → ℕ → ℕ → Part → Type 0
-ReadsPart xs from end (Number v next) = NumberAt xs from end v next
-ReadsPart xs from end Nothing = (v : ℕ) (ys : List ℕ) → v ≤ most → drop from xs ≡ ended v end ++ ys → ⊥
+-- the bytes begin with no number that ends so
+abbrev pub NoNumber : List ℕ → ℕ → Type 0
+NoNumber xs end = (v : ℕ) (ys : List ℕ) → v ≤ most → xs ≡ ended v end ++ ys → ⊥
 
 -- ---- where lines end
 

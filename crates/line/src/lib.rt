@@ -1,97 +1,68 @@
 // The input of the listing, one line, read byte by byte (`read`), and where lines end (`end_of`). A number
-// is checked before each digit that it takes, so nothing wraps.
+// takes a digit only where it stays below 2 ^ 64, so nothing wraps.
 #![tactic(auto)]
 
-ghost use Rattle.std.specs.Prelude.{◌≡◌, ◌+◌, ◌<◌, ◌≤◌, length, drop};
-ghost use Rattle.line.specs.Line.{Reads, ReadsPart, goes_on_lem, line_long};
+ghost use Rattle.std.specs.Prelude.{◌≡◌, ◌+◌, ◌-◌, ◌*◌, ◌<◌, ◌≤◌, ◌==◌, true, length, drop, SomeIff, MatchOption};
+ghost use Rattle.std.specs.List.{position};
+ghost use Rattle.line.specs.Line.{Reads, NumberAt, NoNumber, goes_on_lem, line_long};
 
-// What a reading answers: the four numbers of the line, or that the input is no such line.
-#[derive(Clone, Copy)]
-pub enum Line {
-    Numbers(u64, u64, u64, u64),
-    Bad,
+// The four numbers of a line.
+#[derive(Clone, Copy, Debug, PartialEq, Eq)]
+pub struct Numbers {
+    pub n: u64,
+    pub k: u64,
+    pub rank: u64,
+    pub count: u64,
 }
 
-// One number and the place behind the byte that ends it, or that there is none.
-#[derive(Clone, Copy)]
-enum Part {
-    Number(u64, usize),
-    Nothing,
-}
-
-// Whether a number that was read up to `value` goes on with a byte.
-fn goes_on(value: u64, byte: u8) -> bool
-    ensures { result ≡ goes_on_lem value byte }
+// A number that was read up to `value` and goes on with a byte, or that it doesn't.
+fn go_on(value: u64, byte: u8) -> Option<u64>
+    ensures { SomeIff result (goes_on_lem value byte ≡ true) (value * 10 + (byte - 48)) }
 {
-    if byte < 48 {
-        return false;
+    if value == 0 || byte < b'0' || b'9' < byte {
+        return None;
     }
-    if 57 < byte {
-        return false;
-    }
-    if value == 0 {
-        return false;
-    }
-    if value < 1844674407370955161 {
-        return true;
-    }
-    if 1844674407370955161 < value {
-        return false;
-    }
-    byte <= 53
+    value.checked_mul(10)?.checked_add(u64::from(byte - b'0'))
 }
 
-// The number that begins at a place and ends with the byte `end`.
-fn read_number(input: &[u8], from: usize, end: u8) -> Part
+// The number that the input begins with and the byte `end` ends, and what is behind that byte.
+fn read_number(input: &[u8], end: u8) -> Option<(u64, &[u8])>
     requires { end < 48 }
-    ensures { ReadsPart input.now from end result }
+    ensures { MatchOption result (NoNumber input.now end) (λ part. NumberAt input.now end part.0 part.1.now) }
 {
-    if input.len() <= from {
-        return Part::Nothing;
+    let (first, digits) = input.split_first()?;
+    if *first < b'0' || b'9' < *first {
+        return None;
     }
-    let first = input[from];
-    if first < 48 {
-        return Part::Nothing;
-    }
-    if 57 < first {
-        return Part::Nothing;
-    }
-    let mut value = (first - 48) as u64;
-    let mut i = from + 1;
-    while i < input.len() {
-        let byte = input[i];
-        if byte == end {
-            return Part::Number(value, i + 1);
+    let mut value = u64::from(*first - b'0');
+    for (i, byte) in digits.iter().enumerate() {
+        if *byte == end {
+            return Some((value, &digits[i + 1..]));
         }
-        if !goes_on(value, byte) {
-            return Part::Nothing;
-        }
-        value = value * 10 + (byte - 48) as u64;
-        i += 1;
+        value = go_on(value, *byte)?;
     }
-    Part::Nothing
+    None
 }
 
 // The reading of any bytes.
-pub fn read(input: &[u8]) -> Line
+pub fn read(input: &[u8]) -> Option<Numbers>
     ensures { Reads input.now result }
 {
-    let Part::Number(n, after_n) = read_number(input, 0, 32) else {
-        return Line::Bad;
-    };
-    let Part::Number(k, after_k) = read_number(input, after_n, 32) else {
-        return Line::Bad;
-    };
-    let Part::Number(r, after_r) = read_number(input, after_k, 32) else {
-        return Line::Bad;
-    };
-    let Part::Number(t, after_t) = read_number(input, after_r, 10) else {
-        return Line::Bad;
-    };
-    if after_t != input.len() {
-        return Line::Bad;
+    let (n, behind_n) = read_number(input, b' ')?;
+    let (k, behind_k) = read_number(behind_n, b' ')?;
+    let (rank, behind_rank) = read_number(behind_k, b' ')?;
+    let (count, behind_count) = read_number(behind_rank, b'\n')?;
+    if !behind_count.is_empty() {
+        return None;
     }
-    Line::Numbers(n, k, r, t)
+    Some(Numbers { n, k, rank, count })
+}
+
+// Where the first newline of some bytes is.
+fn find_newline(bytes: &[u8]) -> Option<usize>
+    ensures { result ≡ position (λ byte. byte == 10) bytes.now }
+{
+    bytes.iter().position(|byte| *byte == b'\n')
 }
 
 // Where the line that begins at a place ends: behind its newline, or where the input does.
@@ -99,12 +70,8 @@ pub fn end_of(input: &[u8], from: usize) -> usize
     requires { from ≤ length input.now }
     ensures { result ≡ from + line_long (drop from input.now) }
 {
-    let mut i = from;
-    while i < input.len() {
-        if input[i] == 10 {
-            return i + 1;
-        }
-        i += 1;
+    match find_newline(&input[from..]) {
+        Some(i) => from + i + 1,
+        None => input.len(),
     }
-    i
 }

@@ -1,8 +1,5 @@
 -- The line of an arrangement depends on its n slots alone, so it is the same of the part of a walk that is lent. Assumes nothing.
-use mathlib.Core.Path.{◌≡◌, ◌∙◌, ap}
-use mathlib.Core.List.{List}
-use Prim.Native.Nat.{ℕ}
-use lib.ListN.{length, take}
+use Rattle.std.proofs.Common.{◌≡◌, ◌∙◌, ap, ℕ, List, length, take}
 use lib.Seq.{get_or-take}
 use Rattle.rows.specs.Row.{at}
 use Rattle.text.specs.Text.{slot_line}

@@ -2,105 +2,99 @@
 // on, each with its rank and the flip out of it. Output goes out in large writes.
 #![tactic(auto)]
 
-ghost use Rattle.std.specs.Prelude.{◌+◌, ◌≤◌, length};
+ghost use Rattle.std.specs.Prelude.{◌≡◌, ◌+◌, ◌≤◌};
+ghost use Rattle.arrayvec.specs.ArrayVec.{array_vec_len, Extends};
 ghost use Rattle.rows.specs.Row.{at};
-ghost use Rattle.rows.specs.Put.{Put};
 ghost use Rattle.sizes.specs.Sizes.{most_slots};
+ghost use Rattle.sizes.specs.Refusal.{fine};
+ghost use Rattle.stretch.specs.Stretch.{stretch_verdict};
 ghost use Rattle.text.specs.Text.{slot_line, line_most};
 
-use line::Line;
-use sizes::Verdict;
+use arrayvec::ArrayVec;
+use line::Numbers;
+use sizes::{Fault, Refusal, Verdict};
 use std::io::Write;
+use stretch::Stretch;
 use text::write;
+use text::write::LINE_MOST;
 use walk::hand;
-use walk::hand::PLACES;
+use walk::hand::Walk;
 
 // A byte more than the longest good input, four numbers of 20 digits: more is not looked at.
 const LONGEST: usize = 85;
 
 // Room for some hundreds of lines, which are written at once.
-const BUFFER: usize = 65536;
+const ROOM: usize = 65536;
 
 // Prints the line of a refusal.
-fn refuse<W: Write>(number: u8, out: &mut [u8], output: &mut W)
-    requires { line_most ≤ length out.old }
-{
-    let end = write::put_refused(out, 0, number);
-    streams::write_all(output, &out[..end]);
+fn refuse<W: Write>(refusal: Refusal, output: &mut W) {
+    let mut line = ArrayVec::<u8, LINE_MOST>::new();
+    write::put_refused(&mut line, refusal.fault.number());
+    streams::write_all(output, &line);
 }
 
-// Room for one more line: what stands in the buffer up to `end` is printed where it is short.
-fn make_room<W: Write>(out: &mut [u8], end: usize, output: &mut W) -> usize
-    requires { (line_most ≤ length out.old) × (end ≤ length out.old) }
-    ensures { result + line_most ≤ length out.new }
+// Room for one more line: the text is printed where it is short.
+fn make_room<W: Write>(out: &mut ArrayVec<u8, ROOM>, output: &mut W)
+    ensures { array_vec_len out.new + line_most ≤ 65536 }
 {
-    if write::LINE_MOST <= out.len() - end {
-        return end;
+    if out.remaining_capacity() < LINE_MOST {
+        streams::write_all(output, out.as_slice());
+        out.clear();
     }
-    streams::write_all(output, &out[..end]);
-    0
 }
 
-// Puts the line of an arrangement in the first n places of a walk.
-fn put_line(
-    out: &mut [u8],
-    from: usize,
-    rank: u64,
-    flip: usize,
-    n: usize,
-    modules: [u8; PLACES],
-    settings: [u8; PLACES],
-) -> usize
-    requires { (from + line_most ≤ length out.old) × (n ≤ most_slots) }
-    ensures put { Put out.old from (slot_line rank flip n (at modules) (at settings)) result out.new }
-    ensures upper_bound { result ≤ from + line_most }
+// Puts the line of the arrangement that a walk is at.
+fn put_line(out: &mut ArrayVec<u8, ROOM>, rank: u64, flip: usize, walk: Walk)
+    requires { (array_vec_len out.old + line_most ≤ 65536) × (walk.n ≤ most_slots) }
+    ensures put { Extends out.old (slot_line rank flip walk.n (at walk.modules) (at walk.settings)) out.new }
+    ensures upper_bound { array_vec_len out.new ≤ array_vec_len out.old + line_most }
 {
-    write::put_slots(out, from, rank, flip, &modules[..n], &settings[..n])
+    let n = walk.n;
+    write::put_slots(out, rank, flip, &walk.modules[..n], &walk.settings[..n]);
 }
 
-// Prints a stretch that has been checked.
-fn list<W: Write>(n: usize, k: usize, rank: u64, t: u64, out: &mut [u8], output: &mut W)
-    requires { (n ≤ most_slots) × (line_most ≤ length out.old) }
+// Prints a stretch that has been checked. The walk is at a rank below T throughout, so no call on the walk
+// is refused.
+fn list<W: Write>(numbers: Numbers, output: &mut W)
+    requires { stretch_verdict numbers.n numbers.k numbers.rank numbers.count ≡ fine }
 {
-    let made = hand::make(n, k, rank);
-    let mut walk = made.walk;
-    let mut end = write::put_head(out, 0, n as u64, k as u64, rank, t);
-    let mut i = 0u64;
-    while i < t {
-        let from = make_room(out, end, output);
-        let told = walk.rank();
-        let moved = walk.next();
-        let modules = walk.modules;
-        let settings = walk.settings;
-        end = put_line(out, from, told.number, moved.flip, n, modules, settings);
+    let mut out = ArrayVec::<u8, ROOM>::new();
+    let mut walk = hand::make(numbers.n as usize, numbers.k as usize, numbers.rank).unwrap();
+    write::put_head(&mut out, numbers);
+    for _ in 0..numbers.count {
+        make_room(&mut out, output);
+        let rank = walk.rank().unwrap();
+        let moved = walk.next().unwrap();
+        put_line(&mut out, rank, moved.flip, walk);
         walk = moved.walk;
-        i += 1;
     }
-    let from = make_room(out, end, output);
-    let told = walk.rank();
-    let last = write::put_next(out, from, told.number);
-    streams::write_all(output, &out[..last]);
+    make_room(&mut out, output);
+    write::put_next(&mut out, walk.rank().unwrap());
+    streams::write_all(output, &out);
 }
 
-// Prints what is asked for, or its refusal.
-fn answer<W: Write>(n: usize, k: usize, rank: u64, t: u64, out: &mut [u8], output: &mut W)
-    requires { line_most ≤ length out.old }
-{
-    match stretch::judge(n, k, rank, t) {
-        Verdict::Refused(number, _) => refuse(number, out, output),
-        Verdict::Fine => list(n, k, rank, t, out, output),
-    }
+// Prints what is asked for.
+fn answer<W: Write>(input: &[u8], output: &mut W) -> Verdict {
+    let no_line = Refusal {
+        fault: Fault::Line,
+        place: 0,
+    };
+    let numbers = line::read(input).ok_or(no_line)?;
+    stretch::judge(Stretch {
+        n: numbers.n as usize,
+        k: numbers.k as usize,
+        rank: numbers.rank,
+        t: numbers.count,
+    })?;
+    list(numbers, output);
+    Ok(())
 }
 
 fn main(rt: HostRuntime) {
     let mut input = [0u8; LONGEST];
-    let mut out = [0u8; BUFFER];
     let mut output = rt.stdout();
     let count = streams::read_full(&mut rt.stdin(), &mut input);
-    match line::read(&input[..count]) {
-        Line::Bad => refuse(17, &mut out, &mut output),
-        Line::Numbers(n, k, rank, t) => {
-            answer(n as usize, k as usize, rank, t, &mut out, &mut output)
-        }
+    if let Err(refusal) = answer(&input[..count], &mut output) {
+        refuse(refusal, &mut output);
     }
 }

@@ -16,7 +16,7 @@ use Rattle.rows.proofs.Searches.{by_lowest, none_yet, passed, found}
 use Rattle.sizes.specs.Sizes.{most_slots}
 use Rattle.arrangement.specs.Arrangement.{Valid}
 use Rattle.flip.specs.Flip.{raised, flipped_modules, flipped_settings, Flippable}
-use Rattle.order.specs.Asked.{LentAsked}
+use Rattle.arrangement.proofs.Validity.{Accepted}
 use Rattle.order.specs.Rank.{rank}
 use Rattle.order.specs.Digits.{digit, flip_out, next_rank}
 use Rattle.order.proofs.Digits.{IsFlip, Full, flip_out_lem, flip_unique, full_suc, full_each, digit_lt}
@@ -128,67 +128,75 @@ module _ (n k : ℕ) (M S : ℕ → ℕ) where
   unfolding look or_else
   look_all none = rw none
 
--- slots 0 to i are falling; the code has the cell in front, its setting raised, and how far down the module of slot i is
-pub record Looking (n k : ℕ) (M S : ℕ → ℕ) (front setting up reached i : ℕ) : Type 0 where
+-- the slots before `next` are falling; the code has the cell in front, its setting raised, and how far down the module of the last
+-- of them is
+pub record Looking (n k : ℕ) (M S : ℕ → ℕ) (front setting up reached next : ℕ) : Type 0 where
   pub front_is : front ≡ M 0
   pub setting_is : setting ≡ S 0
   pub up_is : up ≡ raised k setting
-  pub reached_is : reached ≡ offset n (M 0) (M i)
-  pub none : lowest (stops n k M S) i ≡ 0
-  pub i_high : i ≤ n - 1
+  pub reached_is : reached ≡ offset n (M 0) (M (next - 1))
+  pub none : lowest (stops n k M S) (next - 1) ≡ 0
 
-pub looking_first : {n k front setting up : ℕ} {M S : ℕ → ℕ} → front ≡ M 0 → setting ≡ S 0 → up ≡ raised k setting → Looking n k M S front setting up 0 0
+pub looking_first : {n k front setting up : ℕ} {M S : ℕ → ℕ} → front ≡ M 0 → setting ≡ S 0 → up ≡ raised k setting → Looking n k M S front setting up 0 1
 looking_first {n} {k} {front} {setting} {up} {M} {S} front_is setting_is up_is = record {
   front_is = front_is;
   setting_is = setting_is;
   up_is = up_is;
   reached_is = omega (arith, offset_below n (M 0) (M 0) (le_refl _));
   none = none_yet _;
-  i_high = omega arith;
 }
 
 -- v:t is in the next slot, and e is the setting that goes with v
-module _ {n k front setting up reached i v t e : ℕ} {M S : ℕ → ℕ} (so : Looking n k M S front setting up reached i)
-    (v_is : v ≡ M (i + 1)) (t_is : t ≡ S (i + 1)) (e_is : e ≡ if_lt front v up setting) (h : i < n - 1) where
-  goes_with : e ≡ expected_setting k (M 0) (S 0) (M (suc i))
-  unfolding expected_setting
-  goes_with = e_is ∙ rw (so.up_is, so.front_is, so.setting_is, v_is, add-one)
+module _ {n k front setting up reached next v t e : ℕ} {M S : ℕ → ℕ} (so : Looking n k M S front setting up reached next)
+    (v_is : v ≡ M next) (t_is : t ≡ S next) (e_is : e ≡ if_lt front v up setting) (low : 1 ≤ next) (h : next < n) where
+  here : suc (next - 1) ≡ next
+  here = omega arith
 
-  pub stops_by_setting : t ≢ e → i + 1 ≡ look n k M S
-  stops_by_setting ne = sym (look_stops n k M S i so.none (stops_setting n k M S i (λ q. ne (t_is ∙ ap S (add-one i) ∙ q ∙ sym goes_with))) h)
+  goes_with : e ≡ expected_setting k (M 0) (S 0) (M (suc (next - 1)))
+  unfolding expected_setting
+  goes_with = e_is ∙ rw (so.up_is, so.front_is, so.setting_is, v_is, here)
+
+  stopped : stops n k M S (next - 1) ≡ true → next ≡ look n k M S
+  stopped t = let first = look_stops n k M S (next - 1) so.none t (omega arith) in omega arith
+
+  pub stops_by_setting : t ≢ e → next ≡ look n k M S
+  stops_by_setting ne = stopped (stops_setting n k M S (next - 1) (λ q. ne (t_is ∙ ap S (sym here) ∙ q ∙ sym goes_with)))
 
   -- and it is the setting there; x tells how far down v is
   module _ {x : ℕ} (same : t ≡ e) (x_is : x ≡ offset n front v) where
-    setting_same : S (suc i) ≡ expected_setting k (M 0) (S 0) (M (suc i))
-    setting_same = sym (ap S (add-one i)) ∙ sym t_is ∙ same ∙ goes_with
+    setting_same : S (suc (next - 1)) ≡ expected_setting k (M 0) (S 0) (M (suc (next - 1)))
+    setting_same = ap S here ∙ sym t_is ∙ same ∙ goes_with
 
-    further_is : x ≡ offset n (M 0) (M (suc i))
-    further_is = x_is ∙ rw (so.front_is, v_is, add-one)
+    further_is : x ≡ offset n (M 0) (M (suc (next - 1)))
+    further_is = x_is ∙ rw (so.front_is, v_is, here)
 
-    pub stops_by_module : x ≤ reached → i + 1 ≡ look n k M S
-    stops_by_module l = sym (look_stops n k M S i so.none (stops_module n k M S i setting_same (omega (arith, further_is, so.reached_is))) h)
+    pub stops_by_module : x ≤ reached → next ≡ look n k M S
+    stops_by_module l =
+        stopped (stops_module n k M S (next - 1) setting_same (omega (arith, further_is, so.reached_is)))
 
-    pub looking_on : reached < x → Looking n k M S front setting up x (i + 1)
-    looking_on l = record {
-      front_is = so.front_is;
-      setting_is = so.setting_is;
-      up_is = so.up_is;
-      reached_is = further_is ∙ ap (λ y. offset n (M 0) (M y)) (sym (add-one i));
-      none = passed (stops n k M S) i so.none (goes_on n k M S i (record { expected = setting_same; up = omega (arith, further_is, so.reached_is) }));
-      i_high = omega arith;
-    }
+    pub looking_on : reached < x → Looking n k M S front setting up x (next + 1)
+    looking_on l =
+        let on : next - 1 + 1 ≡ next + 1 - 1 = omega arith in
+        let at_next : suc (next - 1) ≡ next + 1 - 1 = omega arith in
+        record {
+          front_is = so.front_is;
+          setting_is = so.setting_is;
+          up_is = so.up_is;
+          reached_is = further_is ∙ ap (λ y. offset n (M 0) (M y)) at_next;
+          none = rw on at (passed (stops n k M S) (next - 1) so.none (goes_on n k M S (next - 1) (record { expected = setting_same; up = omega (arith, further_is, so.reached_is) })));
+        }
 
 -- the flip found can be made
-pub look_flippable : {n k j : ℕ} {ms ss : List ℕ} → LentAsked n k ms ss → j ≡ look n k (at ms) (at ss) → Flippable k j ms ss
+pub look_flippable : {n k j : ℕ} {ms ss : List ℕ} → Accepted n k ms ss → j ≡ look n k (at ms) (at ss) → Flippable k j ms ss
 look_flippable {n} {k} {j} {ms} {ss} asked j_is =
     let high : j ≤ n = omega (arith, (look_is n k (at ms) (at ss) asked.sizes.n_low).most) in record {
       k_high = asked.sizes.k_high;
       j_high = omega (arith, asked.sizes.n_high);
       modules = omega (arith, asked.modules);
       settings = omega (arith, asked.settings);
-      set = λ i h. (asked.valid.cell i (omega arith)).setting;
+      set = λ i h. (asked.valid_is.cell i (omega arith)).setting;
     }
 
 -- and has at most 20 slots, so that it fits its bits of an answer
-pub look_small : {n k j : ℕ} {ms ss : List ℕ} → LentAsked n k ms ss → j ≡ look n k (at ms) (at ss) → j ≤ most_slots
+pub look_small : {n k j : ℕ} {ms ss : List ℕ} → Accepted n k ms ss → j ≡ look n k (at ms) (at ss) → j ≤ most_slots
 look_small asked j_is = (look_flippable asked j_is).j_high

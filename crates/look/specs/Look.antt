@@ -33,7 +33,7 @@ look n k M S = or_else (lowest (stops n k M S) (n - 1)) n
 -- ---- the next arrangement
 
 -- what its making leaves: the flip is made, and its length is the number
-unfoldable pub next_leaves : ℕ → ℕ → List ℕ → List ℕ → Outcome
+unfoldable pub next_leaves : ℕ → ℕ → List ℕ → List ℕ → Outcome ℕ
 next_leaves n k ms ss =
     let j : ℕ = look n k (at ms) (at ss) in
     outcome (lent_verdict n k ms ss) j ms ss (row (flipped_modules j (at ms)) n) (row (flipped_settings k j (at ss)) n)

@@ -2,16 +2,18 @@
 // stop falling, so it costs as many slots as the flip is long.
 #![tactic(auto)]
 
-ghost use Rattle.std.specs.Prelude.{◌≡◌, ◌≤◌};
+ghost use Rattle.std.specs.Prelude.{◌≡◌, ◌≤◌, length};
 ghost use Rattle.rows.specs.Row.{at, row};
 ghost use Rattle.rows.specs.Search.{if_lt};
 ghost use Rattle.sizes.specs.Outcome.{Does};
 ghost use Rattle.sizes.specs.Sizes.{most_slots};
 ghost use Rattle.flip.specs.Flip.{flipped_modules, flipped_settings};
-ghost use Rattle.order.specs.Asked.{LentAsked};
+ghost use Rattle.arrangement.specs.Arrangement.{Valid};
 ghost use Rattle.look.specs.Look.{offset, look, next_leaves};
 
-use sizes::Told;
+use arrangement::lent::Arrangement;
+use sizes::Refusal;
+use sizes::permitted::Sizes;
 
 // How far down from module a the module v is.
 fn offset(n: usize, a: usize, v: usize) -> usize
@@ -29,20 +31,19 @@ fn expected(a: usize, setting: u8, raised: u8, v: usize) -> u8
     if a < v { raised } else { setting }
 }
 
-// The length of the flip, of an arrangement that has been checked.
-pub fn look(n: usize, k: usize, modules: &[u8], settings: &[u8]) -> usize
-    requires { LentAsked n k modules.now settings.now }
-    ensures { result ≡ look n k (at modules.now) (at settings.now) }
+// The length of the flip.
+pub fn look(arrangement: Arrangement) -> usize
+    ensures { result ≡ look arrangement.entry.sizes.n arrangement.entry.sizes.k (at arrangement.entry.modules.now) (at arrangement.entry.settings.now) }
 {
-    let front = modules[0] as usize;
+    let Sizes { n, k } = arrangement.sizes;
+    let modules = arrangement.modules;
+    let settings = arrangement.settings;
+    let front = usize::from(modules[0]);
     let setting = settings[0];
     let raised = flip::raise(k, setting);
-    let last = n - 1;
     let mut reached = 0;
-    let mut i = 0;
-    while i < last {
-        let next = i + 1;
-        let module = modules[next] as usize;
+    for next in 1..n {
+        let module = usize::from(modules[next]);
         if settings[next] != expected(front, setting, raised, module) {
             return next;
         }
@@ -51,34 +52,36 @@ pub fn look(n: usize, k: usize, modules: &[u8], settings: &[u8]) -> usize
             return next;
         }
         reached = further;
-        i = next;
     }
     n
 }
 
 // Looks and makes the flip, and answers its length.
-pub fn next(n: usize, k: usize, modules: &mut [u8], settings: &mut [u8]) -> usize
-    requires { LentAsked n k modules.old settings.old }
-    ensures value { result ≡ look n k (at modules.old) (at settings.old) }
-    ensures modules_after { modules.new ≡ row (flipped_modules result (at modules.old)) n }
-    ensures settings_after { settings.new ≡ row (flipped_settings k result (at settings.old)) n }
+pub fn next(sizes: Sizes, modules: &mut [u8], settings: &mut [u8]) -> usize
+    requires lengths { (length modules.old ≡ sizes.n) × (length settings.old ≡ sizes.n) }
+    requires valid { Valid sizes.n sizes.k (at modules.old) (at settings.old) }
+    ensures value { result ≡ look sizes.n sizes.k (at modules.old) (at settings.old) }
+    ensures modules_after { modules.new ≡ row (flipped_modules result (at modules.old)) sizes.n }
+    ensures settings_after { settings.new ≡ row (flipped_settings sizes.k result (at settings.old)) sizes.n }
 {
-    let j = look(n, k, modules, settings);
-    flip::flip(k, j, modules, settings);
+    let j = look(Arrangement {
+        sizes,
+        modules,
+        settings,
+    });
+    flip::flip(sizes.k, j, modules, settings);
     j
 }
 
 // The next of any arrangement in any two lent buffers, and the length of the flip.
-pub fn next_lent(n: usize, k: usize, modules: &mut [u8], settings: &mut [u8]) -> Told
+pub fn next_lent(
+    n: usize,
+    k: usize,
+    modules: &mut [u8],
+    settings: &mut [u8],
+) -> Result<usize, Refusal>
     ensures { Does (next_leaves n k modules.old settings.old) result modules.new settings.new }
 {
-    let verdict = arrangement::check::judge(n, k, modules, settings);
-    if verdict.refuses() {
-        return Told { verdict, number: 0 };
-    }
-    let j = next(n, k, modules, settings);
-    Told {
-        verdict,
-        number: j as u64,
-    }
+    arrangement::check::judge(n, k, modules, settings)?;
+    Ok(next(Sizes { n, k }, modules, settings))
 }

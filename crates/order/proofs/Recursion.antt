@@ -3,21 +3,21 @@
 use mathlib.Core.Path.{◌≡◌, refl, sym, ap, ap₂, ◌∙◌, subst}
 use mathlib.Core.List.{List}
 use Prim.Native.Nat.{ℕ, suc, ◌+◌, ◌-◌, ◌*◌, ◌/◌, ◌%◌, ◌≤◌, ◌<◌}
-use native.Mathlib.Nat.{mod-lt, div-one, mod-eq_of_lt, div-div-eq-div-mul, mul-le-mul, mul_comm, mul-pos, le_trans}
+use native.Mathlib.Nat.{mod-lt, div-one, mod-eq_of_lt, div-div-eq-div-mul, mul_comm, le_trans}
 use native.Mathlib.Omega.{arith}
 use lib.ListN.{length, set, get_or-replicate}
 use lib.Arith.{digits_lt, digits_div}
 use Rattle.rows.specs.Row.{at, row, front}
 use Rattle.rows.proofs.Cases.{by_lt, by_eq, by_last, if_lt_lem, if_ge}
 use Rattle.rows.proofs.Rows.{length_row, at_row, row_ext, read, unread, rewritten, same_length, Placed, placed}
-use Rattle.sizes.specs.Sizes.{weight, Permitted, most_slots, most_settings}
+use Rattle.sizes.specs.Sizes.{weight, Permitted, most_slots}
 use Rattle.sizes.proofs.Weights.{weight_zero, weight_suc, weight_pos, weight_mono}
 use Rattle.arrangement.specs.Arrangement.{Cell, Valid}
 use Rattle.rows.specs.Copy.{wide, blank}
-use Rattle.arrangement.proofs.Validity.{valid_ext}
+use Rattle.arrangement.proofs.Validity.{Accepted, valid_ext}
 use Rattle.order.specs.Rank.{last_digit_lem, module_of, setting_of, prefix_modules, prefix_settings, rank, renamed_module, restored_module, restored_setting, unrank_modules, unrank_settings}
 use Rattle.order.specs.Digits.{digit}
-use Rattle.order.specs.Asked.{Bounded, RenameAsked, PutAsked, RankAsked, LentAsked, RestoreAsked, UnrankAsked, Unranked}
+use Rattle.order.specs.Asked.{Bounded, RenameAsked, PutAsked, RankAsked, RestoreAsked, UnrankAsked, Unranked}
 use Rattle.order.proofs.Renaming.{renamed_setting_lt, restored_above, restored_below, restored_setting_lt}
 use Rattle.order.proofs.Ranks.{rank_ext, rank_lt, prefix_valid, last_digit_lt, cell_of_digit, unrank_module_front, unrank_module_last, unrank_setting_front, unrank_setting_last}
 use Rattle.order.proofs.Digits.{digit_lt, rest_one_more, rest_of_rest}
@@ -55,9 +55,6 @@ module _ {n k v c r w : ℕ} (asked : PutAsked n k v c r w) where
 
   pub put_lt : last_digit_lem n v c * w + r < weight n k
   put_lt = rw (← put_weight) (digits_lt (last_digit_lt asked.cell) (rw asked.weight_is asked.rank))
-
-  pub factor_fits : k * n ≤ most_settings * most_slots
-  factor_fits = mul-le-mul asked.sizes.k_high asked.sizes.n_high
 
 -- of one slot the rank is its setting
 pub rank_one : {n k : ℕ} {M S : ℕ → ℕ} → n ≡ 1 → Valid n k M S → (S (n - 1) ≡ rank n k M S) × (k ≡ weight n k)
@@ -136,17 +133,17 @@ module _ {n k : ℕ} {ms ss ms' ss' : List ℕ} (asked : RankAsked n k ms ss) (n
         ap (λ a. rank a k (at ms) (at ss)) whole
 
 -- a lent arrangement, loaded
-pub loaded : {n k : ℕ} {ms ss ms' ss' : List ℕ} → LentAsked n k ms ss → ms' ≡ front (at ms) (length ms) blank → ss' ≡ front (at ss) (length ss) blank →
+pub loaded : {n k : ℕ} {ms ss ms' ss' : List ℕ} → Accepted n k ms ss → ms' ≡ front (at ms) (length ms) blank → ss' ≡ front (at ss) (length ss) blank →
     RankAsked n k ms' ss' × (rank n k (at ms') (at ss') ≡ rank n k (at ms) (at ss))
 loaded {n} {k} {ms} {ss} {ms'} {ss'} lent ms'_is ss'_is = (
   record {
     sizes = p;
-    valid = valid_ext same_m same_s lent.valid;
+    valid = valid_ext same_m same_s lent.valid_is;
     bounded = record {
       modules_wide = same_length (at ms) (length ms) blank ms'_is (omega (arith, p, lent.modules));
       settings_wide = same_length (at ss) (length ss) blank ss'_is (omega (arith, p, lent.settings));
-      modules_low = λ i h. by_lt i n (λ l. omega (arith, same_m i l, lent.valid.cell i l, p)) (λ l. omega (arith, behind_m i l h));
-      settings_low = λ i h. by_lt i n (λ l. omega (arith, same_s i l, lent.valid.cell i l)) (λ l. omega (arith, behind_s i l h, p));
+      modules_low = λ i h. by_lt i n (λ l. omega (arith, same_m i l, lent.valid_is.cell i l, p)) (λ l. omega (arith, behind_m i l h));
+      settings_low = λ i h. by_lt i n (λ l. omega (arith, same_s i l, lent.valid_is.cell i l)) (λ l. omega (arith, behind_s i l h, p));
     };
   },
   sym (rank_ext n k (at ms) (at ss) (at ms') (at ss') same_m same_s),
@@ -232,19 +229,7 @@ module _ (m k r : ℕ) {v c : ℕ} {ms ss ms' ss' : List ℕ} (asked : RestoreAs
   one_more : Unranked (suc m) k r ms' ss'
   one_more = record { modules = one_more_module; settings = one_more_setting; bounded = one_more_bounded }
 
-pub fewer_asked : {n k : ℕ} {ms ss : List ℕ} → UnrankAsked n k ms ss → UnrankAsked (n - 1) k ms ss
-fewer_asked asked = record { n_high = omega (arith, asked.n_high); k_low = asked.k_low; k_high = asked.k_high; bounded = asked.bounded }
-
--- the sizes of a digit of n slots and of its cell
-pub record TakenFits (n k above : ℕ) : Type 0 where
-  pub n_pos : 1 ≤ n
-  pub base_pos : 1 ≤ k * n
-  pub base_small : k * n ≤ most_settings * most_slots
-  pub module_fits : above % (k * n) % n ≤ n
-  pub module_small : n - above % (k * n) % n ≤ most_slots
-  pub setting_small : above % (k * n) / n ≤ most_settings
-
--- the same of n digits, where the rank above the others is r divided by their weight
+-- one digit of n taken: the rank above the other digits is r divided by their weight
 module _ {n k above : ℕ} {ms₀ ss₀ : List ℕ} (r : ℕ) (asked : UnrankAsked n k ms₀ ss₀) (ne : n ≡ 0 → ⊥) (above_is : above ≡ r / weight (n - 1) k) where
   n_pos : 1 ≤ n
   n_pos = omega arith
@@ -264,17 +249,6 @@ module _ {n k above : ℕ} {ms₀ ss₀ : List ℕ} (r : ℕ) (asked : UnrankAsk
 
   cell_taken : Cell (suc (n - 1)) k (n - above % (k * n) % n) (above % (k * n) / n)
   cell_taken = rw (module_taken, setting_taken) (cell_of_digit (n - 1) k (digit k r (suc (n - 1))) (digit_lt (n - 1) k r asked.k_low))
-
-  -- what the code works out on the way fits
-  pub taken_fits : TakenFits n k above
-  taken_fits = record {
-    n_pos = n_pos;
-    base_pos = mul-pos asked.k_low n_pos;
-    base_small = mul-le-mul asked.k_high asked.n_high;
-    module_fits = omega (arith, mod-lt (above % (k * n)) n_pos);
-    module_small = omega (arith, asked.n_high);
-    setting_small = omega (arith, cell_taken.setting, asked.k_high);
-  }
 
   module _ {ms ss : List ℕ} (below : Unranked (n - 1) k r ms ss) where
     pub restore_asked : RestoreAsked (n - 1) k (n - above % (k * n) % n) (above % (k * n) / n) ms ss

@@ -34,13 +34,6 @@ pub record RankAsked (n k : ℕ) (ms ss : List ℕ) : Type 0 where
   pub valid : Valid n k (at ms) (at ss)
   pub bounded : Bounded k ms ss
 
--- a valid arrangement in two rows of n places
-pub record LentAsked (n k : ℕ) (ms ss : List ℕ) : Type 0 where
-  pub sizes : Permitted n k
-  pub valid : Valid n k (at ms) (at ss)
-  pub modules : length ms ≡ n
-  pub settings : length ss ≡ n
-
 -- v:c to come behind m slots
 pub record RestoreAsked (m k v c : ℕ) (ms ss : List ℕ) : Type 0 where
   pub m_high : m < most_slots
@@ -60,10 +53,3 @@ pub record Unranked (n k r : ℕ) (ms ss : List ℕ) : Type 0 where
   pub modules : (i : ℕ) → i < n → at ms i ≡ unrank_modules n k (r % weight n k) i
   pub settings : (i : ℕ) → i < n → at ss i ≡ unrank_settings n k (r % weight n k) i
   pub bounded : Bounded k ms ss
-
--- a rank of n slots, and two rows of n places to write its arrangement in
-pub record WriteAsked (n k r : ℕ) (ms ss : List ℕ) : Type 0 where
-  pub sizes : Permitted n k
-  pub rank : r < weight n k
-  pub modules : length ms ≡ n
-  pub settings : length ss ≡ n

@@ -1,13 +1,13 @@
 -- 01, "Numbers of refusal", 8: the check of a rank.
 use Rattle.std.specs.Prelude.{ℕ, List, leb}
-use Rattle.sizes.specs.declared.Verdict.{Verdict}
-use Rattle.sizes.specs.Refusal.{first, refused_if}
+use Rattle.sizes.specs.declared.Fault.TheVariants.{Rank}
+use Rattle.sizes.specs.Refusal.{Verdict, first, refused_if}
 use Rattle.sizes.specs.Sizes.{weight, sizes_verdict}
 use Rattle.arrangement.specs.Check.{buffers_verdict}
 
 -- 8: a rank is T or more
 unfoldable pub rank_verdict : ℕ → ℕ → ℕ → Verdict
-rank_verdict n k r = refused_if 8 (leb (weight n k) r)
+rank_verdict n k r = refused_if Rank (leb (weight n k) r)
 
 -- the check of n, k and a start rank: 1, 2, 3 and 8
 unfoldable pub start_verdict : ℕ → ℕ → ℕ → Verdict

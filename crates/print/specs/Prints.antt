@@ -1,25 +1,16 @@
--- What a program prints by the verdict on its input: a text where that is Fine, and else the line of the refusal.
-use Rattle.std.specs.Prelude.{ℕ, ◌≤◌, ◌≡◌, true, List, length}
-use Rattle.rows.specs.Put.{Put}
-use Rattle.sizes.specs.declared.Verdict.{Verdict}
-use Rattle.sizes.specs.declared.Verdict.TheVariants.{Fine, Refused}
-use Rattle.sizes.specs.Refusal.{refuses}
+-- What a program prints by the verdict on its input: a text where there is nothing to refuse, and else the line of the refusal.
+use Rattle.std.specs.Prelude.{ℕ, List, Ok, Err}
+use Rattle.std.specs.declared.option.Option.{Option}
+use Rattle.sizes.specs.declared.Refusal.{Refusal}
+use Rattle.sizes.specs.Refusal.{Verdict, fault_number}
 use Rattle.text.specs.Text.{refused_at_line}
-use Rattle.print.specs.declared.Printed.{Printed}
+use Rattle.print.specs.Streams.{PrintsRefusal, PrintsText}
 
--- r is the line of a refusal, which was written into the buffer
-pub record Refuses (number place : ℕ) (before : List ℕ) (r : Printed) (after : List ℕ) : Type 0 where
-  pub refused_is : r.refused ≡ true
-  pub put : Put before 0 (refused_at_line number place) r.end after
-  pub inside : r.end ≤ length after
+-- the line of a refusal, by its number in the table and its place
+unfoldable pub refusal_line : Refusal → List ℕ
+refusal_line refusal = refused_at_line (fault_number refusal.fault) refusal.place
 
--- what a verdict has printed: the text, or the line of the refusal
-unfoldable pub printed : Verdict → List ℕ → List ℕ
-printed Fine text = text
-printed (Refused number place) text = refused_at_line number place
-
--- r is what the verdict v has printed, which was written into the buffer
-pub record Prints (v : Verdict) (text before : List ℕ) (r : Printed) (after : List ℕ) : Type 0 where
-  pub refused_is : r.refused ≡ refuses v
-  pub put : Put before 0 (printed v text) r.end after
-  pub inside : r.end ≤ length after
+-- what a verdict prints of a text: the text, or the line of the refusal
+unfoldable pub Prints : Verdict → List ℕ → (output output' errors errors' : Option (List ℕ)) → Type 0
+Prints (Ok done) text output output' errors errors' = PrintsText text output output' errors errors'
+Prints (Err refusal) text output output' errors errors' = PrintsRefusal (refusal_line refusal) output output' errors errors'

@@ -1,9 +1,10 @@
 // The rank of an arrangement: the last digit times its weight, and the rank of the slots before the
 // last, renamed. The slots are renamed where they stand, in rows by value that are lent from call to
-// call. The check of a rank is in `check`.
+// call. The check of a rank is in `check`, and a rank that has been checked in `start`.
 #![tactic(auto)]
 
 pub mod check;
+pub mod start;
 
 ghost use Rattle.std.specs.Prelude.{◌≡◌, suc, ◌+◌, ◌*◌, ◌≤◌, ◌<◌};
 ghost use Rattle.rows.specs.Row.{at, row};
@@ -11,8 +12,9 @@ ghost use Rattle.rows.specs.Search.{if_lt};
 ghost use Rattle.sizes.specs.Sizes.{weight as weight_of, most_slots, most_settings};
 ghost use Rattle.rows.specs.Copy.{wide};
 ghost use Rattle.order.specs.Rank.{lowered_by, renamed_module, renamed_setting, prefix_modules, prefix_settings, last_digit_lem, rank};
-ghost use Rattle.order.specs.Asked.{RenameAsked, PutAsked, RankAsked, LentAsked};
+ghost use Rattle.order.specs.Asked.{RenameAsked, PutAsked, RankAsked};
 
+use arrangement::lent::Arrangement;
 use rows::copy;
 use rows::copy::WIDE;
 
@@ -23,7 +25,8 @@ pub struct Ranked {
     pub weight: u64,
 }
 
-// A setting lowered by d: a comparison does what a remainder would.
+// A setting lowered by d: a comparison does what a remainder would. Here and below single numbers are bounded,
+// which asks less than `Sizes` would.
 fn lower(k: u8, setting: u8, d: u8) -> u8
     requires { (setting < k) × (d ≤ k) × (k ≤ most_settings) }
     ensures { result ≡ lowered_by k setting d }
@@ -35,7 +38,7 @@ fn lower(k: u8, setting: u8, d: u8) -> u8
     }
 }
 
-// Module w renamed, with v:c in the last of n slots.
+// Module w renamed, with v:c in the last of n slots: v and c are two numbers of each formula, as n and k are.
 fn rename_module(n: u8, v: u8, w: u8) -> u8
     requires { (n ≤ most_slots) × (v ≤ n) × (w ≤ most_slots) }
     ensures { result ≡ renamed_module n v w }
@@ -70,12 +73,10 @@ fn rename(m: usize, k: usize, modules: &mut [u8; WIDE], settings: &mut [u8; WIDE
     let most = k as u8;
     let v = modules[m];
     let c = settings[m];
-    let mut i = 0;
-    while i < WIDE {
+    for i in 0..WIDE {
         let w = modules[i];
         modules[i] = rename_module(n, v, w);
         settings[i] = rename_setting(most, v, c, w, settings[i]);
-        i += 1;
     }
 }
 
@@ -83,22 +84,23 @@ fn last_digit(n: usize, v: u8, c: u8) -> u64
     requires { (n ≤ most_slots) × (v ≤ n) × (c ≤ most_settings) }
     ensures { result ≡ last_digit_lem n v c }
 {
-    ((c as usize) * n + (n - v as usize)) as u64
+    (usize::from(c) * n + (n - usize::from(v))) as u64
 }
 
 // The rank of n slots, from v:c in the last and the rank and the weight of the others, renamed.
-fn put_last(n: usize, k: usize, v: u8, c: u8, rank: u64, weight: u64) -> Ranked
-    requires { PutAsked n k v c rank weight }
-    ensures { (result.rank ≡ last_digit_lem n v c * weight + rank) × (result.weight ≡ weight_of n k) }
+fn put_last(n: usize, k: usize, v: u8, c: u8, others: Ranked) -> Ranked
+    requires { PutAsked n k v c others.rank others.weight }
+    ensures { (result.rank ≡ last_digit_lem n v c * others.weight + others.rank) × (result.weight ≡ weight_of n k) }
 {
     let digit = last_digit(n, v, c);
     Ranked {
-        rank: digit * weight + rank,
-        weight: ((k * n) as u64) * weight,
+        rank: digit * others.weight + others.rank,
+        weight: ((k * n) as u64) * others.weight,
     }
 }
 
-// The rank of the first n slots, which are renamed on the way.
+// The rank of the first n slots, which are renamed on the way: so the rows are no arrangement that a type
+// could hold.
 fn rank_slots(n: usize, k: usize, modules: &mut [u8; WIDE], settings: &mut [u8; WIDE]) -> Ranked
     requires { RankAsked n k modules.old settings.old }
     ensures { (result.rank ≡ rank n k (at modules.old) (at settings.old)) × (result.weight ≡ weight_of n k) }
@@ -108,22 +110,22 @@ fn rank_slots(n: usize, k: usize, modules: &mut [u8; WIDE], settings: &mut [u8; 
     let c = settings[m];
     if n == 1 {
         return Ranked {
-            rank: c as u64,
+            rank: u64::from(c),
             weight: k as u64,
         };
     }
     rename(m, k, modules, settings);
-    let below = rank_slots(m, k, modules, settings);
-    put_last(n, k, v, c, below.rank, below.weight)
+    let others = rank_slots(m, k, modules, settings);
+    put_last(n, k, v, c, others)
 }
 
-// The rank of an arrangement that has been checked.
-pub fn rank(n: usize, k: usize, modules: &[u8], settings: &[u8]) -> u64
-    requires { LentAsked n k modules.now settings.now }
-    ensures { result ≡ rank n k (at modules.now) (at settings.now) }
+// The rank of an arrangement.
+pub fn rank(arrangement: Arrangement) -> u64
+    ensures { result ≡ rank arrangement.entry.sizes.n arrangement.entry.sizes.k (at arrangement.entry.modules.now) (at arrangement.entry.settings.now) }
 {
-    let mut copied_modules = copy::load(modules);
-    let mut copied_settings = copy::load(settings);
-    let ranked = rank_slots(n, k, &mut copied_modules, &mut copied_settings);
+    let sizes = arrangement.sizes;
+    let mut modules = copy::load(arrangement.modules);
+    let mut settings = copy::load(arrangement.settings);
+    let ranked = rank_slots(sizes.n, sizes.k, &mut modules, &mut settings);
     ranked.rank
 }

@@ -1,6 +1,7 @@
 -- One walk, three ways. The flip by looking and the flip of the board are both the flip out of the rank, so each way makes the
 -- flip that leads to the next rank, and t flips lead from rank r to (r + t) mod T. Ranks of valid arrangements are all numbers
 -- below T, each once; so T flips meet each arrangement once and come back. Assumes nothing.
+use Rattle.std.proofs.Common.{Result, Ok}
 use mathlib.Core.Path.{◌≡◌, sym, ap, ◌∙◌}
 use mathlib.Core.Bool.{true}
 use mathlib.Core.Logic.{◌↔◌}
@@ -16,8 +17,7 @@ use Rattle.order.proofs.Ranks.{rank_ext, rank_lt, rank_once_module, rank_once_se
 use Rattle.look.proofs.Looks.{look_is, look_rank, look_step}
 use Rattle.step.specs.Step.{closes, step_flip, stepped_counters, stepped_pointers}
 use Rattle.board.specs.Read.{Reads}
-use Rattle.board.specs.declared.read.Reading.{Reading}
-use Rattle.board.specs.declared.read.Reading.TheVariants.{Rank}
+use Rattle.sizes.specs.declared.Refusal.{Refusal}
 use Rattle.step.proofs.Steps.{step_board, step_flip_lem, step_closes}
 use Rattle.board.proofs.Readings.{one_reading, board_read}
 use Rattle.round.specs.Walk.{Arrangement, Same, ValidArrangement, rank_of, look_at, flipped, walked, InHand}
@@ -108,5 +108,5 @@ module _ (n k : ℕ) (k_low : 1 ≤ k) (n_low : 1 ≤ n) where
     board_closes = step_closes k_low n_low rank_here here.board
 
     -- and the number is read off the board, so that it can be handed over from there, too
-    pub board_number : Permitted n k → (w : Reading) → Reads n k cs fs w → w ≡ Rank r
-    board_number sizes w reads = one_reading n k cs fs w (Rank r) reads (board_read sizes rank_here here.board)
+    pub board_number : Permitted n k → (w : Result ℕ Refusal) → Reads n k cs fs w → w ≡ Ok r
+    board_number sizes w reads = one_reading n k cs fs w (Ok r) reads (board_read sizes rank_here here.board)

@@ -4,10 +4,9 @@ use mathlib.Core.Path.{◌≡◌, refl, sym, ap, ◌∙◌}
 use mathlib.Core.List.{List, [], ◌∷◌, ◌++◌, append_assoc}
 use Prim.Native.Nat.{ℕ, suc, ◌+◌, ◌≤◌, ◌<◌}
 use native.Mathlib.Nat.{le_refl}
-use native.Mathlib.Numerals.{add-one}
 use native.Mathlib.Omega.{arith}
-use lib.ListN.{length, take, drop, get_or, set, length-append, length-set}
-use lib.Seq.{paste, paste-zero, paste-suc, length-paste, take-paste, drop-paste, take-length, drop-drop, drop-cons, get_or-set_same, drop-set-lt, take-set-le}
+use lib.ListN.{length, take, drop, set, length-append, length-set}
+use lib.Seq.{paste, paste-zero, length-paste, take-paste, drop-paste, take-length, drop-drop, drop-cons, get_or-set_same, drop-set-lt, take-set-le}
 use Rattle.rows.specs.Put.{Put}
 
 pub put_length : {xs text ys : List ℕ} {from r : ℕ} → from + length text ≤ length xs → Put xs from text r ys → length ys ≡ length xs
@@ -67,13 +66,3 @@ put_front {xs} {text} so =
 -- nothing
 pub put_none : (xs : List ℕ) (from : ℕ) → Put xs from [] from xs
 put_none xs from = record { ends = omega arith; holds = paste-zero xs from [] }
-
--- ---- a text, byte by byte
-
--- its first i bytes are written
-module _ (xs : List ℕ) (from : ℕ) (text : List ℕ) (i : ℕ) {ys : List ℕ} (e : ys ≡ paste xs from text i) where
-  pub text_long : from + i ≤ length xs → i ≤ length text → length ys ≡ length xs
-  text_long h l = rw e (length-paste xs from text i h l)
-
-  pub text_turn : from + i < length xs → i < length text → set ys (from + i) (get_or text i 0) ≡ paste xs from text (i + 1)
-  text_turn h l = rw (e, add-one) (paste-suc xs from text i 0 h l)

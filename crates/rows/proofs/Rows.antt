@@ -6,8 +6,8 @@ use Prim.Native.Nat.{ℕ, zero, suc, ◌+◌, ◌-◌, ◌<◌, ◌≤◌}
 use native.Mathlib.Nat.{not-suc-le-zero, le_refl}
 use native.Mathlib.Numerals.{add-one}
 use native.Mathlib.Omega.{arith}
-use lib.ListN.{length, get_or, set, drop, length-append, length-drop, length-set, get_or-append}
-use lib.Seq.{drop-cons, set_at, get_or_at, get_or-append-add, get_or-drop, get_or-set_same, get_or-set_other, ext_get_or}
+use lib.ListN.{length, get_or, set, take, drop, length-append, length-drop, length-set, get_or-append}
+use lib.Seq.{take-suc, take-length, drop-cons, set_at, get_or_at, get_or-append-add, get_or-drop, get_or-set_same, get_or-set_other, ext_get_or}
 use Rattle.rows.specs.Row.{at, row, front}
 use Rattle.rows.proofs.Cases.{by_last, by_lt, by_eq}
 
@@ -32,6 +32,16 @@ unfolding row
 row_ext f g zero e = refl
 row_ext f g (suc n) e =
     ap₂ (λ (s : List ℕ) (x : ℕ). s ++ (x ∷ [])) (row_ext f g n (λ i h. e i (omega arith))) (e n (le_refl _))
+
+-- the row of what stands in the first n slots
+pub taken : (xs : List ℕ) (n : ℕ) → n ≤ length xs → take n xs ≡ row (at xs) n
+unfolding row
+taken xs zero h = refl
+taken xs (suc n) h = take-suc xs n 0 h ∙ ap (λ ys. ys ++ (at xs n ∷ [])) (taken xs n (omega arith))
+
+-- of a whole row, the row itself
+pub whole : (xs : List ℕ) → xs ≡ row (at xs) (length xs)
+whole xs = sym (take-length xs) ∙ taken xs (length xs) (le_refl _)
 
 -- ---- a front
 

@@ -13,11 +13,7 @@ pub fn load(slots: &[u8]) -> [u8; WIDE]
     ensures { result ≡ front (at slots.now) (length slots.now) blank }
 {
     let mut copy = [0u8; WIDE];
-    let mut i = 0;
-    while i < slots.len() {
-        copy[i] = slots[i];
-        i += 1;
-    }
+    copy[..slots.len()].copy_from_slice(slots);
     copy
 }
 
@@ -26,9 +22,5 @@ pub fn store(n: usize, copy: [u8; WIDE], slots: &mut [u8])
     requires { (n ≤ wide) × (n ≤ length slots.old) }
     ensures { slots.new ≡ front (at copy) n slots.old }
 {
-    let mut i = 0;
-    while i < n {
-        slots[i] = copy[i];
-        i += 1;
-    }
+    slots[..n].copy_from_slice(&copy[..n]);
 }

@@ -1,110 +1,145 @@
--- The laws of verdicts. A verdict refuses or is Fine, and `first` goes by that alone: so a call that returns at its first
+-- The laws of verdicts. A verdict refuses or is fine, and `first` goes by that alone: so a call that leaves by `?` at its first
 -- refusal answers the first verdict that refuses, and its proof has one of these laws for each check. Assumes nothing.
-use mathlib.Core.Path.{◌≡◌, refl, sym, ◌∙◌}
+use Rattle.std.proofs.Common.{Err, Ok, Result}
+use Rattle.std.specs.Result.{IsErrAnd}
+use Rattle.std.proofs.lemmas.Result.{err_from_is_err_and}
+use mathlib.Core.Path.{◌≡◌, refl, ap, ◌∙◌}
 use mathlib.Core.Bool.{Bool, true, false}
 use Prim.Native.Nat.{ℕ, zero, suc, ◌<◌}
 use native.Mathlib.Omega.{arith}
-use Rattle.sizes.specs.declared.Verdict.{Verdict}
-use Rattle.sizes.specs.declared.Verdict.TheVariants.{Fine, Refused}
-use Rattle.sizes.specs.Refusal.{refuses, number_of, place_of, first, refused_if, refused_at_lem, unless_refused}
+use Rattle.sizes.specs.declared.Fault.{Fault}
+use Rattle.sizes.specs.declared.Fault.TheVariants.{Slots, Settings, Total, Length, Module, Repeat, Setting, Rank, Flip, Board, Count, Pair, Contents, Format, Entry, End, Line, Asked}
+use Rattle.sizes.specs.declared.Refusal.{Refusal}
+use Rattle.sizes.specs.Refusal.{Verdict, fine, refused, fault_number, number_of, place_of, checked, first, refused_if, refused_at_lem, unless_refused}
+use Rattle.sizes.specs.Outcome.{answered}
 
 -- ---- from one check to the next
 
-pub is_fine : (v : Verdict) → refuses v ≡ false → v ≡ Fine
-unfolding refuses
-is_fine Fine e = refl
-is_fine (Refused number place) e = cc
+-- a call that left by `?` with the refusal r answers it
+pub left_with : {A : Type 0} {w : Result A Refusal} {r : Refusal} → IsErrAnd w (λ e. e ≡ r) → w ≡ Err r
+left_with {w} left = let e = err_from_is_err_and w left in e.1 ∙ rw e.2
 
--- a check answered the verdict v, which refuses, as r told: so does the call
-pub stops : {v check : Verdict} {r : Bool} (later : Verdict) → v ≡ check → r ≡ refuses v → r ≡ true → v ≡ first check later
-unfolding refuses first
-stops {v = Fine} later e told t = let z : ◌≡◌ {A = Bool} true false = sym t ∙ told in cc
-stops {v = Refused number place} later e told t = rw (← e)
-
--- it does not refuse: the call goes on, and answers what the later checks do
-pub goes_on : {v check w later : Verdict} {r : Bool} → v ≡ check → r ≡ refuses v → r ≡ false → w ≡ later → w ≡ first check later
+-- a check refused: so does the call
+pub stops : {check w : Verdict} {r : Refusal} (later : Verdict) → IsErrAnd w (λ e. e ≡ r) → Err r ≡ check → w ≡ first check later
 unfolding first
-goes_on {v} e told t last = rw (← e, is_fine v (sym told ∙ t)) last
+stops later left e = left_with left ∙ rw (← e)
 
--- where it does not, the check was Fine
-pub was_fine : {v check : Verdict} {r : Bool} → v ≡ check → r ≡ refuses v → r ≡ false → check ≡ Fine
-was_fine {v} e told t = sym e ∙ is_fine v (sym told ∙ t)
+-- the same of a call that makes a value of what has passed the checks
+pub stops_making : {A : Type 0} {check : Verdict} {r : Refusal} (w : Result A Refusal) (later : Verdict) →
+    IsErrAnd w (λ e. e ≡ r) → Err r ≡ check → checked w ≡ first check later
+unfolding first
+stops_making w later left e = ap checked (left_with left) ∙ rw (← e)
 
--- the same of a fault that is tested on the spot
-pub faulty : (number : ℕ) {fault : Bool} (later : Verdict) → fault ≡ true → Refused number 0 ≡ first (refused_if number fault) later
+-- and of a call that answers more than a verdict
+pub stops_answer : {A : Type 0} {check : Verdict} {w : Result A Refusal} {r : Refusal} (x : A) →
+    IsErrAnd w (λ e. e ≡ r) → Err r ≡ check → w ≡ answered check x
+unfolding answered
+stops_answer x left e = left_with left ∙ rw (← e)
+
+-- it did not refuse: the call goes on, and answers what the later checks do
+pub goes_on : {check w later : Verdict} → fine ≡ check → w ≡ later → w ≡ first check later
+unfolding first
+goes_on e last = rw (← e) last
+
+-- and what it was asked for behind the last of them
+pub answers : {A : Type 0} {check : Verdict} {w : Result A Refusal} (x : A) → fine ≡ check → w ≡ Ok x → w ≡ answered check x
+unfolding answered
+answers x e last = rw (← e) last
+
+-- a fault that is tested on the spot
+pub faulty : (fault : Fault) {there : Bool} (later : Verdict) → there ≡ true → refused fault 0 ≡ first (refused_if fault there) later
 unfolding first refused_if
-faulty number later t = rw t
+faulty fault later t = rw t
 
-pub faultless : (number : ℕ) {fault : Bool} {w later : Verdict} → fault ≡ false → w ≡ later → w ≡ first (refused_if number fault) later
+pub faultless : (fault : Fault) {there : Bool} {w later : Verdict} → there ≡ false → w ≡ later → w ≡ first (refused_if fault there) later
 unfolding first refused_if
-faultless number t last = rw t last
+faultless fault t last = rw t last
 
 -- and of the last check of a call
-pub last_faulty : (number : ℕ) {fault : Bool} → fault ≡ true → Refused number 0 ≡ refused_if number fault
+pub last_faulty : (fault : Fault) {there : Bool} → there ≡ true → refused fault 0 ≡ refused_if fault there
 unfolding refused_if
-last_faulty number t = rw t
+last_faulty fault t = rw t
 
-pub last_faultless : (number : ℕ) {fault : Bool} → fault ≡ false → Fine ≡ refused_if number fault
+pub last_faultless : (fault : Fault) {there : Bool} → there ≡ false → fine ≡ refused_if fault there
 unfolding refused_if
-last_faultless number t = rw t
+last_faultless fault t = rw t
 
 -- a fault has a place
-pub at_place : (number place : ℕ) → (place ≡ 0 → ⊥) → refused_at_lem number place ≡ Refused number place
+pub at_place : (fault : Fault) (place : ℕ) → (place ≡ 0 → ⊥) → refused_at_lem fault place ≡ refused fault place
 unfolding refused_at_lem
-at_place number zero ne = absurd (ne refl)
-at_place number (suc slot) ne = refl
+at_place fault zero ne = absurd (ne refl)
+at_place fault (suc slot) ne = refl
 
 -- ---- a number of an answer
 
 -- 0 is answered where the check refused
-pub refused_number : {v check : Verdict} {r : Bool} (x : ℕ) → v ≡ check → r ≡ refuses v → r ≡ true → 0 ≡ unless_refused check x
-unfolding refuses unless_refused
-refused_number {v = Fine} x e told t =
-    let z : ◌≡◌ {A = Bool} true false = sym t ∙ told in cc
-refused_number {v = Refused number place} x e told t = rw (← e)
+pub refused_number : {check : Verdict} {r : Refusal} (x : ℕ) → Err r ≡ check → 0 ≡ unless_refused check x
+unfolding unless_refused
+refused_number x e = rw (← e)
 
 -- and the number itself where it did not
-pub done_number : {v check : Verdict} {r : Bool} {x y : ℕ} → v ≡ check → r ≡ refuses v → r ≡ false → x ≡ y → x ≡ unless_refused check y
+pub done_number : {check : Verdict} {x y : ℕ} → fine ≡ check → x ≡ y → x ≡ unless_refused check y
 unfolding unless_refused
-done_number e told t same = rw (was_fine e told t) same
+done_number e same = rw (← e) same
 
--- ---- what is known where a verdict is Fine
+-- ---- what is known where a verdict is fine
 
 -- neither of two checks refused
-pub both_fine : (v w : Verdict) → first v w ≡ Fine → (v ≡ Fine) × (w ≡ Fine)
+pub both_fine : (v w : Verdict) → first v w ≡ fine → (v ≡ fine) × (w ≡ fine)
 unfolding first
-both_fine Fine w e = (refl, e)
-both_fine (Refused number place) w e = (e, cc)
+both_fine (Ok done) w e = (refl, e)
+both_fine (Err refusal) w e = (e, cc)
 
 -- the fault is not there
-pub no_fault : (number : ℕ) (fault : Bool) → refused_if number fault ≡ Fine → fault ≡ false
+pub no_fault : (fault : Fault) (there : Bool) → refused_if fault there ≡ fine → there ≡ false
 unfolding refused_if
-no_fault number true e = cc
-no_fault number false e = refl
+no_fault fault true e = cc
+no_fault fault false e = refl
 
-pub no_place : (number place : ℕ) → refused_at_lem number place ≡ Fine → place ≡ 0
+pub no_place : (fault : Fault) (place : ℕ) → refused_at_lem fault place ≡ fine → place ≡ 0
 unfolding refused_at_lem
-no_place number zero e = refl
-no_place number (suc slot) e = cc
+no_place fault zero e = refl
+no_place fault (suc slot) e = cc
 
 -- ---- numbers and places that fit a byte each
+
+pub number_low : (fault : Fault) → fault_number fault < 256
+unfolding fault_number
+number_low Slots = omega arith
+number_low Settings = omega arith
+number_low Total = omega arith
+number_low Length = omega arith
+number_low Module = omega arith
+number_low Repeat = omega arith
+number_low Setting = omega arith
+number_low Rank = omega arith
+number_low Flip = omega arith
+number_low Board = omega arith
+number_low Count = omega arith
+number_low Pair = omega arith
+number_low Contents = omega arith
+number_low Format = omega arith
+number_low Entry = omega arith
+number_low End = omega arith
+number_low Line = omega arith
+number_low Asked = omega arith
 
 pub record Small (v : Verdict) : Type 0 where
   pub number : number_of v < 256
   pub place : place_of v < 256
 
 -- of two checks, the second is asked only where the first does not refuse
-pub small_first : (v w : Verdict) → Small v → (v ≡ Fine → Small w) → Small (first v w)
+pub small_first : (v w : Verdict) → Small v → (v ≡ fine → Small w) → Small (first v w)
 unfolding first
-small_first Fine w s t = t refl
-small_first (Refused number place) w s t = s
+small_first (Ok done) w s t = t refl
+small_first (Err refusal) w s t = s
 
-pub small_if : (number : ℕ) (fault : Bool) → number < 256 → Small (refused_if number fault)
+pub small_if : (fault : Fault) (there : Bool) → Small (refused_if fault there)
 unfolding refused_if number_of place_of
-small_if number true h = record { number = h; place = omega arith }
-small_if number false h = record { number = omega arith; place = omega arith }
+small_if fault true = record { number = number_low fault; place = omega arith }
+small_if fault false = record { number = omega arith; place = omega arith }
 
-pub small_at : (number place : ℕ) → number < 256 → place < 256 → Small (refused_at_lem number place)
+pub small_at : (fault : Fault) (place : ℕ) → place < 256 → Small (refused_at_lem fault place)
 unfolding refused_at_lem number_of place_of
-small_at number zero h l = record { number = omega arith; place = omega arith }
-small_at number (suc slot) h l = record { number = h; place = l }
+small_at fault zero l = record { number = omega arith; place = omega arith }
+small_at fault (suc slot) l = record { number = number_low fault; place = l }

@@ -4,7 +4,7 @@ use mathlib.Core.Path.{◌≡◌, sym, ◌∙◌}
 use mathlib.Core.Bool.{Bool}
 use mathlib.Core.List.{List, [], ◌∷◌}
 use Prim.Native.Nat.{ℕ, zero, suc, ◌+◌, ◌*◌, ◌^◌, ◌≤◌, ◌<◌}
-use native.Mathlib.Nat.{mul_assoc, mul_comm, mul_left_comm, pow-succ', le_trans, le_refl, one-le-mul, mul-le-mul_right, mul-le-mul}
+use native.Mathlib.Nat.{mul_assoc, mul_comm, mul_left_comm, pow-succ', le_trans, le_refl, one-le-mul, mul-le-mul_right}
 use native.Mathlib.Numerals.{add-one, unary_clauses}
 use native.Mathlib.Omega.{arith}
 use lib.Dec.{ltb, ltb→lt}
@@ -12,8 +12,8 @@ use borrow.Author.Tests.{lt-ltb, le-ltb, ltb-true, ltb-false}
 use Rattle.rows.specs.Row.{at}
 use Rattle.rows.specs.Search.{outside}
 use Rattle.rows.proofs.Cases.{by_lt, inside, in_range}
-use Rattle.sizes.specs.declared.Verdict.TheVariants.{Fine}
-use Rattle.sizes.specs.Refusal.{refused_if}
+use Rattle.sizes.specs.declared.Fault.TheVariants.{Slots, Settings, Total}
+use Rattle.sizes.specs.Refusal.{fine, refused_if}
 use Rattle.sizes.specs.Sizes.{factorial, weight, sizes_verdict, Permitted, most_slots, most_settings, most_arrangements}
 use Rattle.sizes.proofs.Grid.{below, passes, same, same_eq}
 use Rattle.sizes.proofs.Refusals.{both_fine, no_fault, faultless, last_faultless, Small, small_first, small_if}
@@ -85,39 +85,35 @@ too_many n k h l =
 -- ---- the check of n and k
 
 -- what is known of sizes that are not refused
-pub permitted : (n k : ℕ) → sizes_verdict n k ≡ Fine → Permitted n k
+pub permitted : (n k : ℕ) → sizes_verdict n k ≡ fine → Permitted n k
 unfolding sizes_verdict
 permitted n k e =
-    let rest = both_fine (refused_if 1 (outside 1 most_slots n)) _ e in
-    let last = both_fine (refused_if 2 (outside 1 most_settings k)) _ rest.1 in
-    let slots = inside 1 most_slots n (no_fault 1 _ rest.0) in
-    let settings = inside 1 most_settings k (no_fault 2 _ last.0) in
+    let rest = both_fine (refused_if Slots (outside 1 most_slots n)) _ e in
+    let last = both_fine (refused_if Settings (outside 1 most_settings k)) _ rest.1 in
+    let slots = inside 1 most_slots n (no_fault Slots _ rest.0) in
+    let settings = inside 1 most_settings k (no_fault Settings _ last.0) in
     record {
       n_low = slots.0;
       n_high = slots.1;
       k_low = settings.0;
       k_high = settings.1;
-      few = ltb-false most_arrangements (weight n k) (no_fault 3 _ last.1);
+      few = ltb-false most_arrangements (weight n k) (no_fault Total _ last.1);
     }
 
 -- and sizes of which that is known are not refused
-pub not_refused : (n k : ℕ) → Permitted n k → Fine ≡ sizes_verdict n k
+pub not_refused : (n k : ℕ) → Permitted n k → fine ≡ sizes_verdict n k
 unfolding sizes_verdict
 not_refused n k p =
-    faultless 1 (in_range 1 most_slots n p.n_low p.n_high)
-    (faultless 2 (in_range 1 most_settings k p.k_low p.k_high)
-    (last_faultless 3 (le-ltb most_arrangements (weight n k) p.few)))
+    faultless Slots (in_range 1 most_slots n p.n_low p.n_high)
+    (faultless Settings (in_range 1 most_settings k p.k_low p.k_high)
+    (last_faultless Total (le-ltb most_arrangements (weight n k) p.few)))
 
 -- at permitted sizes, the products by which a weight grows by one place more fit
 module _ {n k : ℕ} (p : Permitted n k) (i : ℕ) (h : i < n) where
-  pub factor_small : k * (i + 1) ≤ most_settings * most_slots
-  factor_small = let few : i + 1 ≤ most_slots = omega arith in mul-le-mul p.k_high few
-
   pub product_fits : {t : ℕ} → t ≡ weight i k → t * (k * (i + 1)) ≤ most_arrangements
   product_fits e = omega (arith, one_more i k e, weight_mono (i + 1) n k p.k_low (omega arith))
 
 pub small_sizes : (n k : ℕ) → Small (sizes_verdict n k)
 unfolding sizes_verdict
 small_sizes n k =
-    small_first _ _ (small_if 1 _ (omega arith))
-    (λ fine. small_first _ _ (small_if 2 _ (omega arith)) (λ fine. small_if 3 _ (omega arith)))
+    small_first _ _ (small_if Slots _) (λ passed. small_first _ _ (small_if Settings _) (λ passed. small_if Total _))

@@ -1,8 +1,8 @@
 -- 01, "Arrangements and sizes": n slots, k settings, and T, the number of arrangements.
 use Rattle.std.specs.Prelude.{ℕ, zero, suc, ◌*◌, ◌^◌, ◌-◌, ◌≤◌, ltb}
 use Rattle.rows.specs.Search.{outside}
-use Rattle.sizes.specs.declared.Verdict.{Verdict}
-use Rattle.sizes.specs.Refusal.{first, refused_if}
+use Rattle.sizes.specs.declared.Fault.TheVariants.{Slots, Settings, Total}
+use Rattle.sizes.specs.Refusal.{Verdict, first, refused_if}
 
 -- the limits of n, of k and of T
 abbrev pub most_slots : ℕ
@@ -26,9 +26,9 @@ weight n k = k ^ n * factorial n
 -- the check of n and k: 1 where n is 0 or above 20, 2 where k is 0 or above 8, 3 where T is above 2 ^ 64 - 1
 unfoldable pub sizes_verdict : ℕ → ℕ → Verdict
 sizes_verdict n k =
-    first (refused_if 1 (outside 1 most_slots n))
-    (first (refused_if 2 (outside 1 most_settings k))
-    (refused_if 3 (ltb most_arrangements (weight n k))))
+    first (refused_if Slots (outside 1 most_slots n))
+    (first (refused_if Settings (outside 1 most_settings k))
+    (refused_if Total (ltb most_arrangements (weight n k))))
 
 -- the sizes that the check lets pass
 pub record Permitted (n k : ℕ) : Type 0 where

@@ -13,7 +13,8 @@ use borrow.Author.Tests.{eq-eqb, ne_eqb, lt-leb}
 use Rattle.rows.specs.Row.{row}
 use Rattle.rows.proofs.Cases.{by_eq, by_lt, opposite, in_range}
 use Rattle.rows.proofs.Rows.{length_row, at_row, row_ext, set_row}
-use Rattle.sizes.specs.declared.Verdict.TheVariants.{Fine}
+use Rattle.sizes.specs.declared.Fault.TheVariants.{Board}
+use Rattle.sizes.specs.Refusal.{fine}
 use Rattle.sizes.specs.Sizes.{weight}
 use Rattle.sizes.proofs.Refusals.{faultless, last_faultless}
 use Rattle.order.specs.Digits.{digit, flip_out, next_rank}
@@ -91,18 +92,18 @@ module _ {n k r x : ℕ} {cs fs : List ℕ} (k_low : 1 ≤ k) (n_low : 1 ≤ n) 
       let e : place fs (suc x) ≡ run_end_lem (n - x) k (digit k r) (suc x) = pointer_of (suc x) (omega arith) (omega arith) ∙ pointer_next k_low n_low r_low turns inside in
       omega (arith, run_range (n - x) k (digit k r) (suc x))
 
-  fine_inside : x ≤ n → Fine ≡ counter_verdict n k x cs fs
+  fine_inside : x ≤ n → fine ≡ counter_verdict n k x cs fs
   unfolding counter_verdict
   fine_inside inside =
-      faultless 10 (lt-leb (k * x - 1) (place cs x) (omega (arith, counter_is inside, turns.own inside)))
+      faultless Board (lt-leb (k * x - 1) (place cs x) (omega (arith, counter_is inside, turns.own inside)))
       (by_eq (suc (digit k r x)) (k * x - 1)
-      (λ e. rw (fills_so inside e) (last_faultless 10 (in_range (suc x) (suc n) (place fs (suc x)) (behind_range inside).0 (behind_range inside).1)))
+      (λ e. rw (fills_so inside e) (last_faultless Board (in_range (suc x) (suc n) (place fs (suc x)) (behind_range inside).0 (behind_range inside).1)))
       (λ e. rw (fills_not inside e)))
 
-  pub never_refused : Fine ≡ step_verdict n k cs fs
+  pub never_refused : fine ≡ step_verdict n k cs fs
   unfolding step_verdict
   never_refused =
-      faultless 10 (in_range (lowest_digit_lem k) (suc n) (pointed k fs) x_range.0 x_range.1)
+      faultless Board (in_range (lowest_digit_lem k) (suc n) (pointed k fs) x_range.0 x_range.1)
       (by_lt n x (λ g. rw (closes_so (omega (arith, turns.most)))) (λ g. rw (closes_not g, pointed_is) (fine_inside g)))
 
   -- ---- its flip
@@ -224,7 +225,7 @@ module _ {n k r : ℕ} {cs fs : List ℕ} (k_low : 1 ≤ k) (n_low : 1 ≤ n) (r
   })
 
   -- it is never refused
-  pub step_fine : Fine ≡ step_verdict n k cs fs
+  pub step_fine : fine ≡ step_verdict n k cs fs
   step_fine = by_turning n k r k_low n_low (λ x turns. never_refused k_low n_low r_low board turns)
 
   -- and its flip is the flip out of the rank

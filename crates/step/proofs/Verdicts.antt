@@ -1,23 +1,24 @@
 -- What the checks of a step come to, one comparison after the other, and what a step that is not refused may rely on. Each
 -- comparison decides one test of the definition. Assumes nothing.
 use mathlib.Core.Path.{◌≡◌, refl, sym, ap, ap₂, ◌∙◌}
-use mathlib.Core.Bool.{Bool, true, false, cond}
+use mathlib.Core.Bool.{Bool, true, false, not, cond}
 use mathlib.Core.Logic.{◌≢◌}
 use mathlib.Core.List.{List}
 use Prim.Native.Nat.{ℕ, suc, ◌+◌, ◌-◌, ◌*◌, ◌≤◌, ◌<◌}
 use native.Mathlib.Nat.{le_refl, mul-le-mul_right, mul-pos}
 use native.Mathlib.Numerals.{add-one}
 use native.Mathlib.Omega.{arith}
-use lib.Dec.{leb, eqb}
-use lib.ListN.{length, length-set}
-use borrow.Author.Tests.{le-leb, lt-leb, leb-false, eq-eqb, ne_eqb}
+use lib.Dec.{leb, ltb, eqb}
+use lib.ListN.{length}
+use borrow.Author.Tests.{leb-false, ltb-true, ltb-false, eq-eqb, ne_eqb}
 use Rattle.rows.specs.Search.{outside}
 use Rattle.rows.proofs.Cases.{by_eq, by_test, below_range, above_range, in_range, inside}
-use Rattle.sizes.specs.declared.Verdict.{Verdict}
-use Rattle.sizes.specs.declared.Verdict.TheVariants.{Fine, Refused}
-use Rattle.sizes.specs.Refusal.{refused_if, number_of, place_of}
+use Rattle.std.proofs.Common.{Err}
+use Rattle.sizes.specs.declared.Fault.TheVariants.{Board}
+use Rattle.sizes.specs.declared.Refusal.{Refusal}
+use Rattle.sizes.specs.Refusal.{Verdict, fine, first, refused_if, number_of, place_of}
 use Rattle.sizes.specs.Sizes.{Permitted, most_slots}
-use Rattle.sizes.proofs.Refusals.{faulty, faultless, last_faulty, last_faultless, both_fine, no_fault, Small, small_first, small_if}
+use Rattle.sizes.proofs.Refusals.{goes_on, faulty, faultless, last_faulty, last_faultless, both_fine, no_fault, Small, small_first, small_if}
 use Rattle.arrangement.specs.Check.{buffers_verdict}
 use Rattle.arrangement.proofs.Validity.{fit, small_buffers}
 use Rattle.board.specs.Board.{place, lowest_digit_lem}
@@ -32,79 +33,68 @@ product_range {n} {k} {x} sizes low high =
     let a : 0 < k * x = mul-pos sizes.k_low low in
     let b : k * x ≤ 8 * x = mul-le-mul_right x sizes.k_high in (omega arith, omega (arith, sizes.n_high))
 
--- ---- digit x, with the counter c there and the pointer y behind it
+-- ---- digit x, with the counter c there
 
-module _ (n k x : ℕ) (cs fs : List ℕ) {c : ℕ} (c_is : c ≡ place cs x) where
-  pub counter_high : k * x - 1 ≤ c → Refused 10 0 ≡ counter_verdict n k x cs fs
-  unfolding counter_verdict
-  counter_high l = faulty 10 _ (le-leb (k * x - 1) (place cs x) (rw (← c_is) l))
+-- it has room, so far as the check goes
+module _ (n k x : ℕ) (cs fs : List ℕ) {c : ℕ} (c_is : c ≡ place cs x) (room : fine ≡ refused_if Board (leb (k * x - 1) c)) where
+  pub stays_open : c + 1 ≢ k * x - 1 → fine ≡ counter_verdict n k x cs fs
+  unfolding counter_verdict fills
+  stays_open ne =
+      goes_on (rw c_is at room) (rw (ne_eqb (suc (place cs x)) (k * x - 1) (λ e. ne (add-one c ∙ ap suc c_is ∙ e))))
 
-  -- it has room
-  module _ (room : c < k * x - 1) where
-    low_counter : leb (k * x - 1) (place cs x) ≡ false
-    low_counter = lt-leb (k * x - 1) (place cs x) (rw (← c_is) room)
-
-    pub stays_open : c + 1 ≢ k * x - 1 → Fine ≡ counter_verdict n k x cs fs
-    unfolding counter_verdict fills
-    stays_open ne =
-        faultless 10 low_counter (rw (ne_eqb (suc (place cs x)) (k * x - 1) (λ e. ne (add-one c ∙ ap suc c_is ∙ e))))
-
-    -- and becomes full
-    module _ {y : ℕ} (e : c + 1 ≡ k * x - 1) (y_is : y ≡ place fs (x + 1)) where
-      becomes_full : fills k x cs ≡ true
-      unfolding fills
-      becomes_full = eq-eqb (suc (place cs x)) (k * x - 1) (sym (ap suc c_is) ∙ sym (add-one c) ∙ e)
-
-      y_there : y ≡ place fs (suc x)
-      y_there = y_is ∙ ap (place fs) (add-one x)
-
-      pub end_low : y < x + 1 → Refused 10 0 ≡ counter_verdict n k x cs fs
-      unfolding counter_verdict
-      end_low l = faultless 10 low_counter (rw becomes_full (last_faulty 10 (below_range (suc x) (suc n) (place fs (suc x)) (omega (arith, y_there)))))
-
-      pub end_high : x + 1 ≤ y → n + 1 < y → Refused 10 0 ≡ counter_verdict n k x cs fs
-      unfolding counter_verdict
-      end_high a l = faultless 10 low_counter (rw becomes_full (last_faulty 10 (above_range (suc x) (suc n) (place fs (suc x)) (omega (arith, y_there)) (omega (arith, y_there)))))
-
-      pub end_fine : x + 1 ≤ y → y ≤ n + 1 → Fine ≡ counter_verdict n k x cs fs
-      unfolding counter_verdict
-      end_fine a b = faultless 10 low_counter (rw becomes_full (last_faultless 10 (in_range (suc x) (suc n) (place fs (suc x)) (omega (arith, y_there)) (omega (arith, y_there)))))
+  -- and becomes full: the end of the run behind it decides
+  pub becomes_full : {w : Verdict} → c + 1 ≡ k * x - 1 → w ≡ refused_if Board (outside (x + 1) (n + 1) (place fs (x + 1))) → w ≡ counter_verdict n k x cs fs
+  unfolding counter_verdict fills
+  becomes_full e w_is =
+      goes_on (rw c_is at room) (rw (eq-eqb (suc (place cs x)) (k * x - 1) (sym (ap suc c_is) ∙ sym (add-one c) ∙ e)) (simp add-one at w_is))
 
 -- ---- the step, with the number x at the place s
+
+-- a refusal by one test is one by every test that holds with it
+as_well : {test other : Bool} {refusal : Refusal} → (test ≡ true → other ≡ true) → Err refusal ≡ refused_if Board test → Err refusal ≡ refused_if Board other
+unfolding refused_if
+as_well {test = true} holds e = e ∙ sym (ap (refused_if Board) (holds refl))
+as_well {test = false} holds e = cc
+
+pub not_below : {s x : ℕ} → fine ≡ refused_if Board (ltb x s) → s ≤ x
+not_below {s} {x} e = ltb-false x s (no_fault Board _ (sym e))
 
 module _ (n k : ℕ) (cs fs : List ℕ) {s x : ℕ} (s_is : s ≡ lowest_digit_lem k) (x_is : x ≡ place fs s) where
   pub x_there : x ≡ pointed k fs
   unfolding pointed
   x_there = x_is ∙ ap (place fs) s_is
 
-  pub points_low : x < s → Refused 10 0 ≡ step_verdict n k cs fs
-  unfolding step_verdict
-  points_low l = faulty 10 _ (below_range (lowest_digit_lem k) (suc n) (pointed k fs) (omega (arith, x_there, s_is)))
+  -- x is below s
+  pub points_low : {refusal : Refusal} → Err refusal ≡ refused_if Board (ltb x s) → Err refusal ≡ step_verdict n k cs fs
+  unfolding step_verdict first
+  points_low e =
+      let low = as_well {other = outside (lowest_digit_lem k) (suc n) (pointed k fs)} (λ t. below_range (lowest_digit_lem k) (suc n) (pointed k fs) (omega (arith, ltb-true x s t, x_there, s_is))) e in
+      rw (← low)
 
-  module _ (low : s ≤ x) where
+  module _ (low : fine ≡ refused_if Board (ltb x s)) where
     in_board : x ≤ n + 1 → outside (lowest_digit_lem k) (suc n) (pointed k fs) ≡ false
-    in_board high = in_range (lowest_digit_lem k) (suc n) (pointed k fs) (omega (arith, x_there, s_is)) (omega (arith, x_there))
+    in_board high = in_range (lowest_digit_lem k) (suc n) (pointed k fs) (omega (arith, not_below low, x_there, s_is)) (omega (arith, x_there))
 
     pub points_to : {w : Verdict} → x ≤ n → w ≡ counter_verdict n k x cs fs → w ≡ step_verdict n k cs fs
     unfolding step_verdict closes
-    points_to l w_is = faultless 10 (in_board (omega arith))
+    points_to l w_is = faultless Board (in_board (omega arith))
         (rw (ne_eqb (pointed k fs) (suc n) (λ e. omega (arith, x_there))) (w_is ∙ ap (λ z. counter_verdict n k z cs fs) x_there))
 
-    pub points_behind : x ≡ n + 1 → Fine ≡ step_verdict n k cs fs
+    -- x is above n: only n + 1 closes the round
+    pub points_behind : {w : Verdict} → n < x → w ≡ refused_if Board (not (eqb x (n + 1))) → w ≡ step_verdict n k cs fs
     unfolding step_verdict closes
-    points_behind e = faultless 10 (in_board (omega arith)) (rw (eq-eqb (pointed k fs) (suc n) (sym x_there ∙ e ∙ add-one n)))
-
-    pub points_high : n < x → x ≢ n + 1 → Refused 10 0 ≡ step_verdict n k cs fs
-    unfolding step_verdict
-    points_high l ne = faulty 10 _ (above_range (lowest_digit_lem k) (suc n) (pointed k fs) (omega (arith, x_there, s_is)) (omega (arith, x_there)))
+    points_behind l w_is =
+        by_eq x (n + 1)
+        (λ e. w_is ∙ rw (eq-eqb x (n + 1) e) (sym (last_faultless Board refl) ∙ faultless Board (in_board (omega arith)) (rw (eq-eqb (pointed k fs) (suc n) (sym x_there ∙ e ∙ add-one n)))))
+        (λ ne. w_is ∙ rw (ne_eqb x (n + 1) ne) (sym (last_faulty Board refl) ∙ faulty Board _ (above_range (lowest_digit_lem k) (suc n) (pointed k fs) (omega (arith, not_below low, x_there, s_is)) (omega (arith, x_there)))))
 
   -- ---- what a step that is not refused relies on
 
-  module _ (fine : step_verdict n k cs fs ≡ Fine) where
+  module _ (passed : step_verdict n k cs fs ≡ fine) where
     pub x_range : (s ≤ x) × (x ≤ n + 1)
     unfolding step_verdict
     x_range =
-        let w = inside (lowest_digit_lem k) (suc n) (pointed k fs) (no_fault 10 _ (both_fine (refused_if 10 (outside (lowest_digit_lem k) (suc n) (pointed k fs))) _ fine).0) in
+        let w = inside (lowest_digit_lem k) (suc n) (pointed k fs) (no_fault Board _ (both_fine (refused_if Board (outside (lowest_digit_lem k) (suc n) (pointed k fs))) _ passed).0) in
         omega (arith, x_there, s_is)
 
     closes_where : n < x → closes n k fs ≡ true
@@ -119,9 +109,9 @@ module _ (n k : ℕ) (cs fs : List ℕ) {s x : ℕ} (s_is : s ≡ lowest_digit_l
       pub counter_room : place cs x < k * x - 1
       unfolding step_verdict counter_verdict
       counter_room =
-          let rest = (both_fine (refused_if 10 (outside (lowest_digit_lem k) (suc n) (pointed k fs))) _ fine).1 in
-          let digit_fine : counter_verdict n k (pointed k fs) cs fs ≡ Fine = rw closes_no at rest in
-          let z = leb-false (k * pointed k fs - 1) (place cs (pointed k fs)) (no_fault 10 _ (both_fine (refused_if 10 (leb (k * pointed k fs - 1) (place cs (pointed k fs)))) _ digit_fine).0) in
+          let rest = (both_fine (refused_if Board (outside (lowest_digit_lem k) (suc n) (pointed k fs))) _ passed).1 in
+          let digit_fine : counter_verdict n k (pointed k fs) cs fs ≡ fine = rw closes_no at rest in
+          let z = leb-false (k * pointed k fs - 1) (place cs (pointed k fs)) (no_fault Board _ (both_fine (refused_if Board (leb (k * pointed k fs - 1) (place cs (pointed k fs)))) _ digit_fine).0) in
           rw x_there z
 
     -- ---- what the step leaves, by its three ways
@@ -167,17 +157,10 @@ module _ (n k : ℕ) (cs fs : List ℕ) {s x : ℕ} (s_is : s ≡ lowest_digit_l
             ),
           )
 
--- three numbers put one after the other, e being what stood at x + 1
-pub put_three : (x s : ℕ) (fs : List ℕ) {e : ℕ} {xs ys zs : List ℕ} → e ≡ place fs (x + 1) → xs ≡ put fs s s → ys ≡ put xs x e → zs ≡ put ys (x + 1) (x + 1) →
-    zs ≡ put (put (put fs s s) x (place fs (suc x))) (suc x) (suc x)
-put_three x s fs e_is a_is b_is d_is =
-    d_is ∙ ap (λ ys. put ys (x + 1) (x + 1)) (b_is ∙ ap₂ (λ (ys : List ℕ) (y : ℕ). put ys x y) a_is (e_is ∙ ap (place fs) (add-one x))) ∙
-    ap (λ z. put (put (put fs s s) x (place fs (suc x))) z z) (add-one x)
-
 -- ---- what a call that is not refused may rely on
 
 -- a step
-pub step_asked : (n k : ℕ) (cs fs : List ℕ) → lent_step_verdict n k cs fs ≡ Fine → StepAsked n k cs fs
+pub step_asked : (n k : ℕ) (cs fs : List ℕ) → lent_step_verdict n k cs fs ≡ fine → StepAsked n k cs fs
 unfolding lent_step_verdict
 step_asked n k cs fs e =
     let both = both_fine (buffers_verdict n k cs 1 fs) _ e in record { lent = lent_board (fit n k cs 1 fs both.0); fine = both.1 }
@@ -192,37 +175,22 @@ step_flip_high {n} {k} {cs} {fs} asked =
 
 -- ---- the answer of a step
 
--- the buffers keep their lengths
-module _ (n k : ℕ) (cs fs : List ℕ) where
-  pub counters_length : length (stepped_counters n k cs fs) ≡ length cs
-  unfolding stepped_counters
-  counters_length =
-      by_test (closes n k fs) (λ t. rw t)
-      (λ f. by_test (fills k (pointed k fs) cs) (λ t. rw (f, t) (length-set cs _ _)) (λ t. rw (f, t) (length-set cs _ _)))
-
-  pub pointers_length : length (stepped_pointers n k cs fs) ≡ length fs
-  unfolding stepped_pointers
-  pointers_length =
-      by_test (closes n k fs) (λ t. rw t (length-set fs _ _))
-      (λ f. by_test (fills k (pointed k fs) cs)
-      (λ t. rw (f, t, length-set, length-set, length-set)) (λ t. rw (f, t) (length-set fs _ _)))
-
 -- its number and place fit a byte each
-small_fine : Small Fine
+small_fine : Small fine
 unfolding number_of place_of
 small_fine = record { number = omega arith; place = omega arith }
 
 small_digit : (n k x : ℕ) (cs fs : List ℕ) → Small (counter_verdict n k x cs fs)
 unfolding counter_verdict
 small_digit n k x cs fs =
-    small_first _ _ (small_if 10 _ (omega arith)) (λ fine. by_test (fills k x cs) (λ t. rw t (small_if 10 _ (omega arith))) (λ t. rw t small_fine))
+    small_first _ _ (small_if Board _) (λ passed. by_test (fills k x cs) (λ t. rw t (small_if Board _)) (λ t. rw t small_fine))
 
 pub small_step : (n k : ℕ) (cs fs : List ℕ) → Small (lent_step_verdict n k cs fs)
 unfolding lent_step_verdict step_verdict
 small_step n k cs fs =
     small_first _ _ (small_buffers n k cs 1 fs)
-    (λ fine. small_first _ _ (small_if 10 _ (omega arith))
-    (λ fine. by_test (closes n k fs) (λ t. rw t small_fine) (λ t. rw t (small_digit n k (pointed k fs) cs fs))))
+    (λ passed. small_first _ _ (small_if Board _)
+    (λ passed. by_test (closes n k fs) (λ t. rw t small_fine) (λ t. rw t (small_digit n k (pointed k fs) cs fs))))
 
 -- ---- the digit x that the pointer at s points to, where the round does not close
 

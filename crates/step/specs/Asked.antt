@@ -1,15 +1,9 @@
 -- What the functions of a step ask of their callers, who have made the checks.
 use Rattle.std.specs.Prelude.{ℕ, suc, ◌≤◌, ◌≡◌, List, length}
-use Rattle.sizes.specs.declared.Verdict.TheVariants.{Fine}
+use Rattle.sizes.specs.Refusal.{fine}
 use Rattle.sizes.specs.Sizes.{most_slots}
 use Rattle.board.specs.Asked.{LentBoard}
 use Rattle.step.specs.Step.{step_verdict}
-
--- two buffers for a board of n digits, and a digit x of it
-pub record DigitAsked (n k x : ℕ) (cs fs : List ℕ) : Type 0 where
-  pub lent : LentBoard n k cs fs
-  pub x_low : 1 ≤ x
-  pub x_high : x ≤ n
 
 -- a digit x that becomes full, of which s is the lowest or a lower one
 pub record FillAsked (s x : ℕ) (cs fs : List ℕ) : Type 0 where
@@ -22,4 +16,4 @@ pub record FillAsked (s x : ℕ) (cs fs : List ℕ) : Type 0 where
 -- a board that a step does not refuse
 pub record StepAsked (n k : ℕ) (cs fs : List ℕ) : Type 0 where
   pub lent : LentBoard n k cs fs
-  pub fine : step_verdict n k cs fs ≡ Fine
+  pub fine : step_verdict n k cs fs ≡ fine

@@ -1,9 +1,8 @@
 -- 01, "The counter board": one step of a board, true or false. It reads x = f_s; x is n + 1 where the round closes.
 use Rattle.std.specs.Prelude.{ℕ, suc, ◌+◌, ◌-◌, ◌*◌, Bool, cond, List, leb, eqb, set}
 use Rattle.rows.specs.Search.{outside}
-use Rattle.sizes.specs.declared.Verdict.{Verdict}
-use Rattle.sizes.specs.declared.Verdict.TheVariants.{Fine}
-use Rattle.sizes.specs.Refusal.{first, refused_if}
+use Rattle.sizes.specs.declared.Fault.TheVariants.{Board}
+use Rattle.sizes.specs.Refusal.{Verdict, fine, first, refused_if}
 use Rattle.sizes.specs.Outcome.{Outcome, outcome}
 use Rattle.arrangement.specs.Check.{buffers_verdict}
 use Rattle.board.specs.Board.{place, lowest_digit_lem}
@@ -31,14 +30,14 @@ fills k x cs = eqb (suc (place cs x)) (k * x - 1)
 -- 10 of a digit x: c_x is k × x - 1 or more, or the digit becomes full and y = f_(x + 1) is outside x + 1 to n + 1
 unfoldable pub counter_verdict : ℕ → ℕ → ℕ → List ℕ → List ℕ → Verdict
 counter_verdict n k x cs fs =
-    first (refused_if 10 (leb (k * x - 1) (place cs x)))
-    (cond (fills k x cs) (refused_if 10 (outside (suc x) (suc n) (place fs (suc x)))) Fine)
+    first (refused_if Board (leb (k * x - 1) (place cs x)))
+    (cond (fills k x cs) (refused_if Board (outside (suc x) (suc n) (place fs (suc x)))) fine)
 
 -- 10 of a step: x is below s or above n + 1, or the round does not close and digit x is refused
 unfoldable pub step_verdict : ℕ → ℕ → List ℕ → List ℕ → Verdict
 step_verdict n k cs fs =
-    first (refused_if 10 (outside (lowest_digit_lem k) (suc n) (pointed k fs)))
-    (cond (closes n k fs) Fine (counter_verdict n k (pointed k fs) cs fs))
+    first (refused_if Board (outside (lowest_digit_lem k) (suc n) (pointed k fs)))
+    (cond (closes n k fs) fine (counter_verdict n k (pointed k fs) cs fs))
 
 -- the counters after the step: c_x + 1 is stored, or 0 where the digit becomes full
 unfoldable pub stepped_counters : ℕ → ℕ → List ℕ → List ℕ → List ℕ
@@ -64,6 +63,6 @@ unfoldable pub step_number : ℕ → ℕ → List ℕ → ℕ
 step_number n k fs = step_flip n k fs + cond (closes n k fs) 256 0
 
 -- what a step leaves
-unfoldable pub step_leaves : ℕ → ℕ → List ℕ → List ℕ → Outcome
+unfoldable pub step_leaves : ℕ → ℕ → List ℕ → List ℕ → Outcome ℕ
 step_leaves n k cs fs =
     outcome (lent_step_verdict n k cs fs) (step_number n k fs) cs fs (stepped_counters n k cs fs) (stepped_pointers n k cs fs)

@@ -6,18 +6,18 @@ ghost use Rattle.std.specs.Prelude.{◌≡◌, cond, suc, ◌+◌, ◌≤◌, �
 ghost use Rattle.sizes.specs.Sizes.{most_slots};
 ghost use Rattle.board.specs.Board.{place as place_of};
 ghost use Rattle.step.specs.Step.{put as put_in, closes, step_flip, counter_verdict, step_verdict, lent_step_verdict, stepped_counters, stepped_pointers};
-ghost use Rattle.board.specs.Asked.{LentBoard};
-ghost use Rattle.step.specs.Asked.{DigitAsked, FillAsked, StepAsked};
+ghost use Rattle.step.specs.Asked.{FillAsked, StepAsked};
 
 use board::digits::lowest_digit;
-use sizes::Verdict;
+use board::lent::Board;
+use sizes::{Fault, Verdict, outside, refuse_if};
 
 // The number at a place of a row, counted from 1.
 fn place(numbers: &[u8], j: usize) -> usize
     requires { (1 ≤ j) × (j ≤ length numbers.now) }
     ensures { (result ≡ place_of numbers.now j) × (result < 256) }
 {
-    numbers[j - 1] as usize
+    usize::from(numbers[j - 1])
 }
 
 // Puts a number at a place of a row, counted from 1.
@@ -29,56 +29,39 @@ fn put(numbers: &mut [u8], j: usize, number: usize)
 }
 
 // The check of digit x, to which the pointer at s points.
-fn judge_digit(n: usize, k: usize, x: usize, counters: &[u8], pointers: &[u8]) -> Verdict
-    requires { DigitAsked n k x counters.now pointers.now }
-    ensures { result ≡ counter_verdict n k x counters.now pointers.now }
+fn judge_digit(board: Board, x: usize) -> Verdict
+    requires { (1 ≤ x) × (x ≤ board.sizes.n) }
+    ensures { result ≡ counter_verdict board.entry.sizes.n board.entry.sizes.k x board.entry.counters.now board.entry.pointers.now }
 {
-    let full = k * x - 1;
-    let counter = place(counters, x);
-    if full <= counter {
-        return Verdict::Refused(10, 0);
-    }
+    let full = board.sizes.k * x - 1;
+    let counter = place(board.counters, x);
+    refuse_if(Fault::Board, full <= counter)?;
     if counter + 1 != full {
-        return Verdict::Fine;
+        return Ok(());
     }
-    let end = place(pointers, x + 1);
-    if end < x + 1 {
-        return Verdict::Refused(10, 0);
-    }
-    if n + 1 < end {
-        return Verdict::Refused(10, 0);
-    }
-    Verdict::Fine
+    let end = place(board.pointers, x + 1);
+    refuse_if(Fault::Board, outside(x + 1, board.sizes.n + 1, end))
 }
 
 // The check of a step, of two buffers that have their lengths.
-fn judge_step(n: usize, k: usize, counters: &[u8], pointers: &[u8]) -> Verdict
-    requires { LentBoard n k counters.now pointers.now }
-    ensures { result ≡ step_verdict n k counters.now pointers.now }
+fn judge_step(board: Board) -> Verdict
+    ensures { result ≡ step_verdict board.entry.sizes.n board.entry.sizes.k board.entry.counters.now board.entry.pointers.now }
 {
-    let s = lowest_digit(k);
-    let x = place(pointers, s);
-    if x < s {
-        return Verdict::Refused(10, 0);
+    let s = lowest_digit(board.sizes.k);
+    let x = place(board.pointers, s);
+    refuse_if(Fault::Board, x < s)?;
+    if x <= board.sizes.n {
+        return judge_digit(board, x);
     }
-    if x <= n {
-        return judge_digit(n, k, x, counters, pointers);
-    }
-    if x != n + 1 {
-        return Verdict::Refused(10, 0);
-    }
-    Verdict::Fine
+    refuse_if(Fault::Board, x != board.sizes.n + 1)
 }
 
 // The check of any n and k and of a step of any two lent buffers.
 pub fn judge(n: usize, k: usize, counters: &[u8], pointers: &[u8]) -> Verdict
     ensures { result ≡ lent_step_verdict n k counters.now pointers.now }
 {
-    let lent = arrangement::check::judge_buffers(n, k, counters, 1, pointers);
-    if lent.refuses() {
-        return lent;
-    }
-    judge_step(n, k, counters, pointers)
+    let board = Board::new(n, k, counters, pointers)?;
+    judge_step(board)
 }
 
 // Digit x becomes full: it joins the run behind it.
@@ -94,14 +77,15 @@ fn fill(s: usize, x: usize, counters: &mut [u8], pointers: &mut [u8])
     put(pointers, x + 1, x + 1);
 }
 
-// What a step answers: the length of the flip, and whether the round closed.
+// What a step answers: the length of the flip, and whether the round closed; each step has both.
 #[derive(Clone, Copy)]
 pub struct Stepped {
     pub flip: usize,
     pub closed: bool,
 }
 
-// The step, of a board that it does not refuse.
+// The step, of a board that it does not refuse. Its buffers are lent to write in, and a `Board` holds them
+// to be read: so what that says is asked in a clause.
 pub fn step(n: usize, k: usize, counters: &mut [u8], pointers: &mut [u8]) -> Stepped
     requires { StepAsked n k counters.old pointers.old }
     ensures flip_value { result.flip ≡ step_flip n k pointers.old }

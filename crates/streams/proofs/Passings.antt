@@ -1,5 +1,5 @@
 -- Bytes pass through a stream part by part: known bytes lose, or grow by, the parts one behind the other. Assumes nothing.
-use Rattle.std.proofs.Common.{ℕ, ◌≡◌, sym, ◌∙◌, ap, ap₂, ◌+◌, ◌-◌, ◌≤◌, List, [], ◌++◌, append_assoc, append-nil, length, take, drop, arith, None, Some, Result, Ok, Err, le_refl}
+use Rattle.std.proofs.Common.{ℕ, ◌≡◌, sym, ◌∙◌, ap, ap₂, ◌+◌, ◌-◌, ◌≤◌, List, [], ◌++◌, append_assoc, append-nil, length, take, drop, arith, take_all, None, Some, Result, Ok, Err, le_refl}
 use Rattle.std.specs.declared.option.Option.{Option}
 use Rattle.std.specs.Result.{IfOk, result_unwrap_or}
 use Rattle.std.specs.Counts.{IsPrefixLen}
@@ -7,7 +7,8 @@ use Rattle.std.specs.Io.KnownBytes.{Keeps, Consumes, Appends, ReadConsumes, Writ
 use borrow.Rule.Slice.PartMut.{put_mid, post_of, same_len_mid}
 use Rattle.std.proofs.lemmas.Slice.{take-put_mid_below}
 use lib.ListN.{length-drop}
-use lib.Seq.{take-add, length-take-le, drop_at, take-append-le, take-take}
+use Rattle.std.proofs.lemmas.List.{drop-drop}
+use lib.Seq.{take-add, length-take-le, drop_at, take-append-le}
 
 -- ---- known bytes
 
@@ -82,22 +83,23 @@ filled_on {before = before} {a} {b} {start} {buffer} {done} {n} part r so long b
 
 -- ---- a loop that writes
 
--- the first `done` bytes of a text were written
-pub record Passed (before now : Option (List ℕ)) (text : List ℕ) (done : ℕ) : Type 0 where
+-- what is in front of the rest of a text was written
+pub record Passed (before now : Option (List ℕ)) (text rest : List ℕ) : Type 0 where
+  pub done : ℕ
   pub inside : done ≤ length text
+  pub left : rest ≡ drop done text
   pub bytes : Appends before now (take done text)
 
--- n bytes of what is left were written
-pub passed_on : {E : Type 0} {before a b : Option (List ℕ)} {text : List ℕ} {done n : ℕ} (r : Result ℕ E) → Passed before a text done →
-    WriteAppends a b r (take (length text - done) (drop done text)) → IfOk r (λ n. n ≤ length (take (length text - done) (drop done text))) →
-    n ≡ result_unwrap_or r 0 → Passed before b text (done + n)
-passed_on {before = before} {a} {b} {text} {done} {n} r so bytes inside n_is =
-    let rest = take (length text - done) (drop done text) in
+-- n bytes of the rest were written
+pub passed_on : {E : Type 0} {before a b : Option (List ℕ)} {text rest : List ℕ} {n : ℕ} (r : Result ℕ E) → Passed before a text rest →
+    WriteAppends a b r rest → IfOk r (λ n. n ≤ length rest) → n ≡ result_unwrap_or r 0 → Passed before b text (take (length rest - n) (drop n rest))
+passed_on {before = before} {a} {b} {text} {rest} {n} r so bytes inside n_is =
     let few : n ≤ length rest = rw n_is (write_inside r rest inside) in
-    let long : length rest ≡ length text - done = length-take-le (length text - done) (drop done text) (omega (arith, length-drop done text)) in
-    let joined : take (done + n) text ≡ take done text ++ take n rest =
-    take-add done n text ∙ ap (λ (xs : List ℕ). take done text ++ xs) (sym (take-take n (length text - done) (drop done text) (omega arith))) in
+    let joined : take (so.done + n) text ≡ take so.done text ++ take n rest =
+    take-add so.done n text ∙ ap (λ (xs : List ℕ). take so.done text ++ take n xs) (sym so.left) in
     record {
-      inside = omega (arith, so.inside);
-      bytes = rw joined (appends_on before a b (take done text) (take n rest) so.bytes (rw n_is (write_part r a b rest bytes)));
+      done = so.done + n;
+      inside = omega (arith, so.inside, ap length so.left, length-drop so.done text);
+      left = take_all (length rest - n) (drop n rest) (omega (arith, length-drop n rest)) ∙ ap (drop n) so.left ∙ drop-drop n so.done text;
+      bytes = rw joined (appends_on before a b (take so.done text) (take n rest) so.bytes (rw n_is (write_part r a b rest bytes)));
     }

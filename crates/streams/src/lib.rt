@@ -14,6 +14,7 @@ pub fn read_full<R: Read>(input: &mut R, buffer: &mut [u8]) -> usize
     ensures inside { result ≤ length buffer.new }
     ensures bytes { Consumes (R.remaining input.old) (R.remaining input.new) (take result buffer.new) }
 {
+    // A slice of what is left would be no plainer: `done` is the answer, and grows by what each read gave.
     let mut done = 0;
     while done < buffer.len() {
         let count = input.read(&mut buffer[done..]).unwrap_or(0);
@@ -30,13 +31,14 @@ pub fn read_full<R: Read>(input: &mut R, buffer: &mut [u8]) -> usize
 pub fn write_all<W: Write>(output: &mut W, text: &[u8]) -> bool
     ensures { Writes (W.contents output.old) (W.contents output.new) text.now result }
 {
-    let mut done = 0;
-    while done < text.len() {
-        let count = output.write(&text[done..]).unwrap_or(0);
+    // std's own `write_all` doesn't say what was written before a write that failed.
+    let mut rest = text;
+    while !rest.is_empty() {
+        let count = output.write(rest).unwrap_or(0);
         if count == 0 {
             return false;
         }
-        done += count;
+        rest = &rest[count..];
     }
     true
 }

@@ -2,9 +2,7 @@
 -- its setting where x is one of the slots turned; a module that stands nowhere stays so. Assumes nothing.
 use mathlib.Core.Path.{◌≡◌, refl, sym, ap, ◌∙◌}
 use mathlib.Core.Bool.{Bool, true, false, cond}
-use mathlib.Core.Logic.{◌≢◌}
-use Prim.Native.Nat.{ℕ, suc, ◌+◌, ◌-◌, ◌≤◌, ◌<◌}
-use native.Mathlib.Nat.{le_refl}
+use Prim.Native.Nat.{ℕ, suc, ◌-◌, ◌≤◌, ◌<◌}
 use native.Mathlib.Omega.{arith}
 use lib.Dec.{leb, eqb}
 use borrow.Author.Tests.{eqb-true, eq-eqb, leb-false, lt-leb, lt-ltb, le-ltb}
@@ -14,15 +12,14 @@ use Rattle.rows.proofs.Searches.{by_lowest}
 use Rattle.flip.specs.Flip.{raised, source, flipped_modules, flipped_settings}
 use Rattle.flip.proofs.Flips.{raised_lt, source_front, source_behind, source_lt}
 use mathlib.Core.List.{List}
-use lib.ListN.{length}
 use Rattle.rows.specs.Row.{at, row}
-use Rattle.rows.proofs.Rows.{length_row, at_row}
+use Rattle.rows.proofs.Rows.{at_row}
+use Rattle.sizes.specs.Sizes.{weight}
 use Rattle.arrangement.specs.Arrangement.{Valid}
 use Rattle.arrangement.proofs.Validity.{valid_ext}
 use Rattle.order.specs.Rank.{unrank_modules, unrank_settings}
-use Rattle.order.specs.Asked.{LentAsked, WriteAsked}
 use Rattle.order.proofs.Ranks.{unrank_valid}
-use Rattle.stretch.specs.Asked.{Seated, together}
+use Rattle.stretch.specs.Asked.{Seated, SeatedAt, together}
 use Rattle.stretch.specs.Pair.{stands_at, pair_at, has_pair}
 
 -- turning twice changes nothing
@@ -68,40 +65,6 @@ seat_ext same_m same_s seat = record {
   setting = seat.setting;
   here = λ l. (sym (same_m _ l) ∙ (seat.here l).0, sym (same_s _ l) ∙ (seat.here l).1);
   only = λ i l e. seat.only i l (same_m i l ∙ e);
-}
-
--- ---- a loop that looks for a module
-
--- it stands in none of the first i slots
-pub record Unseen (n : ℕ) (M : ℕ → ℕ) (v i : ℕ) : Type 0 where
-  pub high : i ≤ n
-  pub none : (h : ℕ) → h < i → M h ≢ v
-
-pub unseen_first : {n : ℕ} {M : ℕ → ℕ} {v : ℕ} → Unseen n M v 0
-unseen_first = record { high = omega arith; none = λ h l e. omega arith }
-
-pub unseen_on : {n : ℕ} {M : ℕ → ℕ} {v i : ℕ} → Unseen n M v i → i < n → M i ≢ v → Unseen n M v (i + 1)
-unseen_on {M} {v} {i} unseen l ne = record {
-  high = omega arith;
-  none = λ h g e. by_lt h i (λ a. unseen.none h a e) (λ a. let here : h ≡ i = omega arith in ne (ap M (sym here) ∙ e));
-}
-
--- it stands in slot i
-pub seen : {n k : ℕ} {M S : ℕ → ℕ} {v i : ℕ} → Valid n k M S → i < n → M i ≡ v → Seated n k M S v i (S i)
-seen valid l e = record {
-  high = omega arith;
-  setting = (valid.cell _ l).setting;
-  here = λ g. (e, refl);
-  only = λ h g same. valid.once h _ g l (same ∙ sym e);
-}
-
--- it stands in none
-pub nowhere : {n k : ℕ} {M S : ℕ → ℕ} {v i : ℕ} → 1 ≤ k → Unseen n M v i → n ≤ i → Seated n k M S v n 0
-nowhere {n} k_low unseen l = record {
-  high = le_refl n;
-  setting = k_low;
-  here = λ g. absurd (omega arith);
-  only = λ h g same. absurd (unseen.none h (omega arith) same);
 }
 
 -- ---- two modules side by side
@@ -166,15 +129,10 @@ row_is : (f : ℕ → ℕ) (n : ℕ) {xs : List ℕ} → xs ≡ row f n → (i :
 row_is f n e i l = sym (ap (λ xs. at xs i) e ∙ at_row f n i l)
 
 module _ (n k r : ℕ) {ms ss : List ℕ} (ms_are : ms ≡ row (unrank_modules n k r) n) (ss_are : ss ≡ row (unrank_settings n k r) n) where
-  -- it can be looked through
-  pub written_asked : {xs ys : List ℕ} → WriteAsked n k r xs ys → LentAsked n k ms ss
-  written_asked asked = record {
-    sizes = asked.sizes;
-    valid = valid_ext (row_is _ n ms_are) (row_is _ n ss_are) (unrank_valid n k r asked.sizes.k_low asked.rank);
-    modules = ap length ms_are ∙ length_row _ n;
-    settings = ap length ss_are ∙ length_row _ n;
-  }
+  -- it is valid there
+  pub written_valid : 1 ≤ k → r < weight n k → Valid n k (at ms) (at ss)
+  written_valid k_low r_low = valid_ext (row_is _ n ms_are) (row_is _ n ss_are) (unrank_valid n k r k_low r_low)
 
   -- and a seat in the rows is one in it
-  pub seat_written : {v x s : ℕ} → Seated n k (at ms) (at ss) v x s → Seated n k (unrank_modules n k r) (unrank_settings n k r) v x s
+  pub seat_written : {v x s : ℕ} → Seated n k (at ms) (at ss) v x s → SeatedAt n k r v x s
   seat_written seat = seat_ext (λ i l. sym (row_is _ n ms_are i l)) (λ i l. sym (row_is _ n ss_are i l)) seat

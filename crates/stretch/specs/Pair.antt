@@ -2,8 +2,8 @@
 -- in some slot i and w:e in slot i + 1. An arrangement met twice counts twice.
 use Rattle.std.specs.Prelude.{ℕ, zero, suc, ◌+◌, ◌-◌, Bool, true, false, cond, ltb, leb, eqb}
 use Rattle.rows.specs.Search.{outside, lowest}
-use Rattle.sizes.specs.declared.Verdict.{Verdict}
-use Rattle.sizes.specs.Refusal.{first, refused_if}
+use Rattle.sizes.specs.declared.Fault.TheVariants.{Pair}
+use Rattle.sizes.specs.Refusal.{Verdict, first, refused_if}
 use Rattle.order.specs.Rank.{unrank_modules, unrank_settings}
 use Rattle.stretch.specs.Stretch.{rank_at, stretch_verdict}
 
@@ -32,4 +32,4 @@ bad_pair n k v c w e =
 
 -- the check of a stretch and of a pair: 1, 2, 3, 8, 11 and 12
 unfoldable pub pair_verdict : ℕ → ℕ → ℕ → ℕ → ℕ → ℕ → ℕ → ℕ → Verdict
-pair_verdict n k r t v c w e = first (stretch_verdict n k r t) (refused_if 12 (bad_pair n k v c w e))
+pair_verdict n k r t v c w e = first (stretch_verdict n k r t) (refused_if Pair (bad_pair n k v c w e))

@@ -1,4 +1,4 @@
-// The check of a stretch, and the pair count over one (`pair`).
+// A stretch and its check, and the pair count over one (`pair`).
 #![tactic(auto)]
 
 pub mod pair;
@@ -7,20 +7,25 @@ ghost use Rattle.std.specs.Prelude.{◌≡◌};
 ghost use Rattle.stretch.specs.Stretch.{stretch_verdict};
 
 use rank::check::judge_start;
-use sizes::Verdict;
+use sizes::{Fault, Verdict, refuse_if};
 
 pub const MOST_COUNTED: u64 = 65536;
 
-// The check of any n and k, of any start rank and of any count.
-pub fn judge(n: usize, k: usize, rank: u64, t: u64) -> Verdict
-    ensures { result ≡ stretch_verdict n k rank t }
+// The t arrangements from a rank on, of n slots and k settings. It takes any numbers: `judge` says which
+// of them are refused, and for what, so its fields have no clause. A stretch of a book has another limit of its
+// count, and stands in `book`.
+#[derive(Clone, Copy)]
+pub struct Stretch {
+    pub n: usize,
+    pub k: usize,
+    pub rank: u64,
+    pub t: u64,
+}
+
+// The check of any stretch.
+pub fn judge(stretch: Stretch) -> Verdict
+    ensures { result ≡ stretch_verdict stretch.n stretch.k stretch.rank stretch.t }
 {
-    let start = judge_start(n, k, rank);
-    if start.refuses() {
-        return start;
-    }
-    if MOST_COUNTED < t {
-        return Verdict::Refused(11, 0);
-    }
-    Verdict::Fine
+    judge_start(stretch.n, stretch.k, stretch.rank)?;
+    refuse_if(Fault::Count, MOST_COUNTED < stretch.t)
 }

@@ -1,58 +1,43 @@
 -- A line is written by its parts, one behind the other. The lengths of the lines are sums of those of their numbers. Assumes
 -- nothing.
 use mathlib.Core.Path.{◌≡◌, refl, sym, ap, ◌∙◌}
-use mathlib.Core.List.{List, [], ◌∷◌, ◌++◌, append_assoc}
-use Prim.Native.Nat.{ℕ, zero, suc, ◌+◌, ◌-◌, ◌*◌, ◌/◌, ◌%◌, ◌≤◌, ◌<◌}
+use mathlib.Core.List.{List, [], ◌∷◌, ◌++◌, append_assoc, append-nil}
+use Prim.Native.Nat.{ℕ, zero, suc, ◌+◌, ◌*◌, ◌%◌, ◌≤◌, ◌<◌}
 use native.Mathlib.Numerals.{add-one}
 use native.Mathlib.Omega.{arith}
-use lib.ListN.{length, get_or, set, length-append, length-set}
-use lib.Seq.{paste}
+use lib.ListN.{length, get_or, drop, length-append}
 use mir.Val.{Fits}
 use mir.Syntax.{w8}
 use Rattle.rows.specs.Row.{at}
-use Rattle.rows.specs.Put.{Put}
-use Rattle.rows.proofs.Puts.{put_length, put_both, byte_first, put_one, put_none}
 use Rattle.line.specs.Decimal.{most, decimal, ended, numbers_line}
-use Rattle.text.specs.Text.{walk_word, refused_word, head_line, slot, slots, slot_line, refused_at_line, entry_line, line_most, entry_most}
-use Rattle.line.proofs.Decimals.{decimal_one, decimal_more, long_one, long_more, long_some, long_most, long_byte}
+use Rattle.text.specs.Text.{walk_word, next_word, refused_word, head_line, slot, slots, slot_line, next_line, refused_line, refused_at_line, entry_line, line_most}
+use Rattle.std.specs.Fmt as std
+use Rattle.std.proofs.lemmas.Fmt.{decimal_digit, decimal_step}
+use Rattle.line.proofs.Decimals.{by_digits, decimal_one, decimal_more, long_most, long_byte}
 
--- ---- a number, from its last digit on
+-- ---- one behind the other
 
--- with the digits of `rest` written too, from its place i back, the buffer is what it is to become
-pub record Spelling (xs : List ℕ) (from number : ℕ) (ys : List ℕ) (rest i : ℕ) : Type 0 where
-  pub high : rest ≤ most
-  pub here : i + 1 ≡ from + length (decimal rest)
-  pub inside : i < length xs
-  pub long : length ys ≡ length xs
-  pub left : paste ys from (decimal rest) (length (decimal rest)) ≡ paste xs from (decimal number) (length (decimal number))
+-- a text, and another behind it
+pub joined : (xs text more : List ℕ) {ys zs : List ℕ} → ys ≡ xs ++ text → zs ≡ ys ++ more → zs ≡ xs ++ (text ++ more)
+joined xs text more first second = second ∙ ap (λ l. l ++ more) first ∙ append_assoc xs text more
 
-pub spelling_first : {xs : List ℕ} {from number i : ℕ} → number ≤ most → i + 1 ≡ from + length (decimal number) → i < length xs → Spelling xs from number xs number i
-spelling_first h e l = record { high = h; here = e; inside = l; long = refl; left = refl }
+-- what is behind a text is as much longer
+pub longer : (xs text : List ℕ) {ys : List ℕ} → ys ≡ xs ++ text → length ys ≡ length xs + length text
+longer xs text put = ap length put ∙ length-append xs text
 
-pub spelling_on : {xs : List ℕ} {from number : ℕ} {ys : List ℕ} {rest i d : ℕ} → Spelling xs from number ys rest i → 10 ≤ rest → d ≡ 48 + rest % 10 →
-    Spelling xs from number (set ys i d) (rest / 10) (i - 1)
-spelling_on {from = from} {ys = ys} {rest} {i} {d} so h e =
-    let some = long_some (rest / 10) (omega arith) in
-    let more = long_more rest h so.high in
-    let there : i ≡ from + length (decimal (rest / 10)) = omega arith in
-    record {
-      high = omega arith;
-      here = omega arith;
-      inside = omega arith;
-      long = length-set ys i d ∙ so.long;
-      left = (rw (there, e) (byte_first ys from (decimal (rest / 10)) (48 + rest % 10) (omega arith))) ∙
-          ap (λ t. paste ys from t (length t)) (sym (decimal_more rest h so.high)) ∙ so.left;
-    }
+-- ---- a number
 
-pub spelled : {xs : List ℕ} {from number : ℕ} {ys : List ℕ} {rest i d r : ℕ} → Spelling xs from number ys rest i → rest < 10 → d ≡ 48 + rest →
-    r ≡ from + length (decimal number) → Put xs from (decimal number) r (set ys i d)
-spelled {from = from} {ys = ys} {rest} {i} {d} so h e r_is =
-    let there : i ≡ from = omega (arith, so.here, long_one rest h) in
-    record {
-      ends = r_is;
-      holds = (rw (there, e) (put_one ys from (48 + rest) (omega (arith, so.long, so.inside))).holds) ∙
-          ap (λ t. paste ys from t (length t)) (sym (decimal_one rest h)) ∙ so.left;
-    }
+-- the library's decimal is that of `Decimal`
+pub same_decimal : (x : ℕ) → x ≤ most → std.decimal x ≡ decimal x
+same_decimal = by_digits (λ x. std.decimal x ≡ decimal x)
+    (λ x h. decimal_digit x h ∙ sym (decimal_one x h))
+    (λ x h high before. decimal_step x h (omega arith) ∙ ap (λ ds. ds ++ (48 + x % 10) ∷ []) before ∙ sym (decimal_more x h high))
+
+-- ---- an empty text
+
+-- what was put into an empty text is all that is in it
+pub all_put : {empty ys zs text : List ℕ} → empty ≡ [] → ys ≡ empty ++ text → zs ≡ ys → zs ≡ text
+all_put {text = text} none put same = same ∙ put ∙ ap (λ l. l ++ text) none
 
 -- ---- lengths
 
@@ -101,72 +86,84 @@ unfolding slot_line
 slot_line_short rank flip n M S hr hf hn m s =
     simp length-append (omega (arith, ended_most rank 32 hr, long_most flip hf, slots_short n M S m s))
 
-pub word_short : (word : List ℕ) (x : ℕ) → length word ≤ 8 → x ≤ most → length (word ++ ended x 10) ≤ line_most
-word_short word x few h = simp length-append (omega (arith, ended_most x 10 h))
-
 -- ---- lines by their parts
 
-pub head_put : {xs x1 x2 x3 x4 ys : List ℕ} {from p1 p2 p3 p4 e n k r t : ℕ} → from + line_most ≤ length xs → n ≤ most → k ≤ most → r ≤ most → t ≤ most →
-    Put xs from walk_word p1 x1 → Put x1 p1 (ended n 32) p2 x2 → Put x2 p2 (ended k 32) p3 x3 → Put x3 p3 (ended r 32) p4 x4 → Put x4 p4 (ended t 10) e ys →
-    Put xs from (head_line n k r t) e ys
+pub head_put : (xs : List ℕ) {x1 x2 x3 x4 ys : List ℕ} (n k r t : ℕ) → x1 ≡ xs ++ walk_word → x2 ≡ x1 ++ ended n 32 → x3 ≡ x2 ++ ended k 32 → x4 ≡ x3 ++ ended r 32 → ys ≡ x4 ++ ended t 10 →
+    ys ≡ xs ++ head_line n k r t
 unfolding head_line numbers_line walk_word
-head_put {n = n} {k} {r} {t} room hn hk hr ht word first second third fourth =
-    let parts : walk_word ++ ended n 32 ++ ended k 32 ++ ended r 32 ++ ended t 10 ≡ head_line n k r t = simp append_assoc in
-    let a = ended_most n 32 hn in
-    let b = ended_most k 32 hk in
-    let c = ended_most r 32 hr in
-    let d = ended_most t 10 ht in
-    rw parts at
-    (put_both (simp length-append (omega arith))
-    (put_both (simp length-append (omega arith))
-    (put_both (simp length-append (omega arith)) (put_both (omega arith) word first) second) third) fourth)
+head_put xs {x1} n k r t word first second third fourth =
+    joined xs walk_word _ word (joined x1 (ended n 32 ++ ended k 32 ++ ended r 32) _ (joined x1 (ended n 32 ++ ended k 32) _ (joined x1 (ended n 32) _ first second) third) fourth)
 
-pub slot_put : {xs x1 x2 ys : List ℕ} {from p1 p2 e : ℕ} (v c : ℕ) → from + length (slot v c) ≤ length xs → Put xs from (32 ∷ []) p1 x1 → Put x1 p1 (ended v 58) p2 x2 →
-    Put x2 p2 (decimal c) e ys → Put xs from (slot v c) e ys
+pub slot_put : (xs : List ℕ) {x1 x2 ys : List ℕ} (v c : ℕ) → x1 ≡ xs ++ 32 ∷ [] → x2 ≡ x1 ++ ended v 58 → ys ≡ x2 ++ decimal c → ys ≡ xs ++ slot v c
 unfolding slot
-slot_put v c room space colon setting =
-    let long = slot_long v c in
-    let one = ended_long v 58 in
-    put_both (simp length-append (omega arith)) (put_both (omega arith) space colon) setting
+slot_put xs {x1} v c space colon setting = joined xs (32 ∷ []) _ space (joined x1 (ended v 58) _ colon setting)
 
--- ---- all slots, one by one
+pub slots_put : (xs : List ℕ) {x1 x2 x3 ys : List ℕ} (rank flip n : ℕ) (M S : ℕ → ℕ) → x1 ≡ xs ++ ended rank 32 → x2 ≡ x1 ++ decimal flip → x3 ≡ x2 ++ slots n M S → ys ≡ x3 ++ 10 ∷ [] →
+    ys ≡ xs ++ slot_line rank flip n M S
+unfolding slot_line
+slots_put xs rank flip n M S first second third last =
+    joined xs (ended rank 32 ++ decimal flip ++ slots n M S) _ (joined xs (ended rank 32 ++ decimal flip) _ (joined xs (ended rank 32) _ first second) third) last
 
--- the first i slots are written
-pub record Listed (xs : List ℕ) (from : ℕ) (ms ss ys : List ℕ) (end i : ℕ) : Type 0 where
+pub entry_put : (xs : List ℕ) {x1 x2 ys : List ℕ} (n k count rank : ℕ) (M S : ℕ → ℕ) → x1 ≡ xs ++ ended n 32 → x2 ≡ x1 ++ ended k 32 → ys ≡ x2 ++ slot_line count rank n M S →
+    ys ≡ xs ++ entry_line n k count rank M S
+unfolding entry_line
+entry_put xs n k count rank M S first second rest = joined xs (ended n 32 ++ ended k 32) _ (joined xs (ended n 32) _ first second) rest
+
+pub next_put : (xs : List ℕ) {x1 ys : List ℕ} (rank : ℕ) → x1 ≡ xs ++ next_word → ys ≡ x1 ++ ended rank 10 → ys ≡ xs ++ next_line rank
+unfolding next_line next_word
+next_put xs rank word number = joined xs next_word _ word number
+
+pub refused_put : (xs : List ℕ) {x1 ys : List ℕ} (number : ℕ) → x1 ≡ xs ++ refused_word → ys ≡ x1 ++ ended number 10 → ys ≡ xs ++ refused_line number
+unfolding refused_line refused_word
+refused_put xs number word last = joined xs refused_word _ word last
+
+pub refused_at_put : (xs : List ℕ) {x1 x2 ys : List ℕ} (number place : ℕ) → x1 ≡ xs ++ refused_word → x2 ≡ x1 ++ ended number 32 → ys ≡ x2 ++ ended place 10 → ys ≡ xs ++ refused_at_line number place
+unfolding refused_at_line refused_word
+refused_at_put xs number place word first second = joined xs (refused_word ++ ended number 32) _ (joined xs refused_word _ word first) second
+
+-- ---- slots one by one
+
+-- the slots before place i are put, and the rest of both rows is to come
+pub record Listed (xs ms ss ys rest_m rest_s : List ℕ) (i : ℕ) : Type 0 where
   pub high : i ≤ length ms
-  pub put : Put xs from (slots i (at ms) (at ss)) end ys
+  pub modules : rest_m ≡ drop i ms
+  pub settings : rest_s ≡ drop i ss
+  pub put : ys ≡ xs ++ slots i (at ms) (at ss)
 
-pub listed_first : {xs ms ss : List ℕ} {from : ℕ} → Listed xs from ms ss xs from 0
+pub listed_first : (xs ms ss : List ℕ) {rest_m rest_s : List ℕ} → rest_m ≡ ms → rest_s ≡ ss → Listed xs ms ss xs rest_m rest_s 0
 unfolding slots
-listed_first {xs} {from = from} = record { high = omega arith; put = put_none xs from }
+listed_first xs ms ss m s = record { high = omega arith; modules = m; settings = s; put = sym (append-nil xs) }
 
-module _ {xs : List ℕ} {from : ℕ} {ms ss : List ℕ} (room : from + 8 * length ms ≤ length xs) (modules : (i : ℕ) → at ms i ≤ 255) (settings : (i : ℕ) → at ss i ≤ 255) where
-  -- they end where there is room for 8 bytes for each slot that is left
-  pub slots_room : {ys : List ℕ} {end i : ℕ} → Listed xs from ms ss ys end i → end + 8 * (length ms - i) ≤ length xs
-  slots_room {i = i} so =
-      omega (arith, so.put.ends, so.high, slots_short i (at ms) (at ss) (λ j l. modules j) (λ j l. settings j))
+no_cons : {x : ℕ} {xs : List ℕ} → x ∷ xs ≡ [] → ⊥
+no_cons e = let z : ◌≡◌ {A = ℕ} 1 0 = ap (λ l. elim l [ [] ↦ 0 | x ∷ xs ↦ 1 ]) e in omega arith
 
-  pub listed_long : {ys : List ℕ} {end i : ℕ} → Listed xs from ms ss ys end i → length ys ≡ length xs
-  listed_long so = put_length (omega (arith, so.put.ends, slots_room so)) so.put
+-- what is next of a row
+ahead : (xs : List ℕ) {rest : List ℕ} {x : ℕ} (i : ℕ) → x ∷ rest ≡ drop i xs → (i < length xs) × (at xs i ≡ x) × (rest ≡ drop (suc i) xs)
+ahead [] zero e = absurd (no_cons e)
+ahead [] (suc i) e = absurd (no_cons e)
+ahead (y ∷ ys) zero e = (omega arith, sym (ap (λ l. get_or l 0 0) e), ap (drop 1) e)
+ahead (y ∷ ys) (suc i) e = let so = ahead ys i e in (omega (arith, so.0), so.1, so.2)
 
-  pub slot_room : {ys : List ℕ} {end i : ℕ} → Listed xs from ms ss ys end i → i < length ms → end + 8 ≤ length ys
-  slot_room so l = omega (arith, listed_long so, slots_room so)
+module _ (xs ms ss : List ℕ) (modules : (i : ℕ) → at ms i ≤ 255) (settings : (i : ℕ) → at ss i ≤ 255) where
+  -- there is room for 8 bytes for each slot that is left
+  pub slot_room : {ys rest more rest_s : List ℕ} {v i : ℕ} → Listed xs ms ss ys rest rest_s i → rest ≡ v ∷ more → length ys + 8 ≤ length xs + 8 * length ms
+  slot_room {i = i} so next =
+      omega (arith, (ahead ms i (sym next ∙ so.modules)).0, longer xs (slots i (at ms) (at ss)) so.put, slots_short i (at ms) (at ss) (λ j l. modules j) (λ j l. settings j))
 
-  pub listed_on : {ys zs : List ℕ} {end e i : ℕ} → Listed xs from ms ss ys end i → i < length ms → Put ys end (slot (at ms i) (at ss i)) e zs → Listed xs from ms ss zs e (i + 1)
-  unfolding slots
-  listed_on {i = i} so l more = record {
-    high = omega arith;
-    put = rw (add-one, slots) (put_both (omega (arith, slot_room so l, listed_long so, so.put.ends, slot_short (at ms i) (at ss i) (modules i) (settings i))) so.put more);
-  }
+pub listed_on : (xs ms ss : List ℕ) {ys zs rest_m rest_s more_m more_s : List ℕ} {v c i : ℕ} → Listed xs ms ss ys rest_m rest_s i → rest_m ≡ v ∷ more_m → rest_s ≡ c ∷ more_s →
+    zs ≡ ys ++ slot v c → Listed xs ms ss zs more_m more_s (i + 1)
+unfolding slots
+listed_on xs ms ss {v = v} {c} {i} so next_m next_s more =
+    let m = ahead ms i (sym next_m ∙ so.modules) in
+    let s = ahead ss i (sym next_s ∙ so.settings) in
+    record {
+      high = omega (arith, m.0);
+      modules = rw add-one m.2;
+      settings = rw add-one s.2;
+      put = rw (add-one, slots, m.1, s.1) (joined xs (slots i (at ms) (at ss)) (slot v c) so.put more);
+    }
 
 -- ---- the line of an arrangement
-
-pub slots_put : {xs x1 x2 x3 ys : List ℕ} {from p1 p2 p3 e : ℕ} (rank flip n : ℕ) (M S : ℕ → ℕ) → from + length (slot_line rank flip n M S) ≤ length xs →
-    Put xs from (ended rank 32) p1 x1 → Put x1 p1 (decimal flip) p2 x2 → Put x2 p2 (slots n M S) p3 x3 → Put x3 p3 (10 ∷ []) e ys → Put xs from (slot_line rank flip n M S) e ys
-unfolding slot_line
-slots_put rank flip n M S room first second third last =
-    let fits = simp length-append at room in
-    put_both (simp length-append (omega arith)) (put_both (simp length-append (omega arith)) (put_both (omega arith) first second) third) last
 
 -- it depends on the n slots alone
 pub slots_ext : (n : ℕ) (M S M' S' : ℕ → ℕ) → ((i : ℕ) → i < n → M i ≡ M' i) → ((i : ℕ) → i < n → S i ≡ S' i) → slots n M S ≡ slots n M' S'
@@ -182,30 +179,7 @@ slot_line_ext rank flip n {M} {S} {M'} {S'} same_m same_s = rw (slots_ext n M S 
 
 -- ---- the line of an entry
 
-pub entry_put : {xs x1 x2 ys : List ℕ} {from p1 p2 e : ℕ} (n k count rank : ℕ) (M S : ℕ → ℕ) → from + entry_most ≤ length xs → n ≤ most → k ≤ most →
-    e ≤ p2 + line_most → Put xs from (ended n 32) p1 x1 → Put x1 p1 (ended k 32) p2 x2 → Put x2 p2 (slot_line count rank n M S) e ys →
-    Put xs from (entry_line n k count rank M S) e ys × (e ≤ from + entry_most)
-unfolding entry_line
-entry_put n k count rank M S room hn hk short first second rest =
-    let a = ended_most n 32 hn in
-    let b = ended_most k 32 hk in (
-      put_both (simp length-append (omega (arith, first.ends, second.ends, rest.ends)))
-          (put_both (omega arith) first second) rest,
-      omega (arith, first.ends, second.ends),
-    )
-
 pub entry_line_ext : (k count rank : ℕ) {n m : ℕ} {M S M' S' : ℕ → ℕ} → n ≡ m → ((i : ℕ) → i < m → M i ≡ M' i) → ((i : ℕ) → i < m → S i ≡ S' i) →
     entry_line n k count rank M S ≡ entry_line m k count rank M' S'
 unfolding entry_line
 entry_line_ext k count rank {m = m} same same_m same_s = rw same (ap (λ line. ended m 32 ++ ended k 32 ++ line) (slot_line_ext count rank m same_m same_s))
-
--- ---- the line of a refusal with its place
-
-pub refused_at_put : {xs x1 x2 ys : List ℕ} {from p1 p2 e number place : ℕ} → from + line_most ≤ length xs → number ≤ most → place ≤ most →
-    Put xs from refused_word p1 x1 → Put x1 p1 (ended number 32) p2 x2 → Put x2 p2 (ended place 10) e ys →
-    Put xs from (refused_at_line number place) e ys × (e ≤ from + line_most)
-unfolding refused_at_line refused_word
-refused_at_put {number = number} {place} room hn hp word first second =
-    let a = ended_most number 32 hn in
-    let b = ended_most place 10 hp in
-    (put_both (simp length-append (omega arith)) (put_both (omega arith) word first) second, omega (arith, word.ends, first.ends, second.ends))

@@ -1,4 +1,4 @@
-// The output lines of the programs (`write`), on byte slices.
+// The output lines of the programs (`write`), in texts of fixed room.
 #![tactic(auto)]
 
 pub mod write;

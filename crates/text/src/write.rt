@@ -1,165 +1,144 @@
-// The lines of the programs, each written into a lent buffer from a place on. The answer is the place
-// behind what was written.
-ghost use Rattle.std.specs.Prelude.{◌≡◌, ◌++◌, ◌+◌, ◌*◌, ◌≤◌, length};
+// The lines of the programs, each appended to a text that has room for it. The room is of the text as it
+// stands at a call, so it is asked in a clause, and no type holds it.
+ghost use Rattle.std.specs.Prelude.{◌≡◌, [], ◌∷◌, ◌++◌, ◌+◌, ◌*◌, ◌≤◌, length};
+ghost use Rattle.arrayvec.specs.ArrayVec.{array_vec_len, Extends};
 ghost use Rattle.rows.specs.Row.{at as slot_of};
-ghost use Rattle.rows.specs.Put.{Put};
 ghost use Rattle.line.specs.Decimal.{decimal, ended};
 ghost use Rattle.text.specs.Text.{slot, slots, head_line, slot_line, next_line, refused_line, refused_at_line, entry_line, line_most, entry_most};
 
-use rows::put::{put_byte, put_text};
+use arrayvec::ArrayVec;
+use itoa::Buffer;
+use line::Numbers;
 
 // The most bytes of a line of the listing.
 pub const LINE_MOST: usize = 202;
 
-// How many digits a number has.
-fn count_digits(number: u64) -> usize
-    ensures { result ≡ length (decimal number) }
+// Bytes as they are.
+fn put_text<const N: usize>(out: &mut ArrayVec<u8, N>, text: &[u8])
+    requires { array_vec_len out.old + length text.now ≤ N }
+    ensures { Extends out.old text.now out.new }
 {
-    let mut count = 1;
-    let mut rest = number;
-    while 10 <= rest {
-        rest = rest / 10;
-        count += 1;
-    }
-    count
+    out.try_extend_from_slice(text).unwrap();
 }
 
-// A number, its last digit first, so that each goes to its place.
-pub fn put_number(out: &mut [u8], from: usize, number: u64) -> usize
-    requires { from + length (decimal number) ≤ length out.old }
-    ensures { Put out.old from (decimal number) result out.new }
+// A number. One digit, as most numbers of a listing have, is put without a buffer, which takes longer.
+pub fn put_number<const N: usize>(out: &mut ArrayVec<u8, N>, number: u64)
+    requires { array_vec_len out.old + length (decimal number) ≤ N }
+    ensures { Extends out.old (decimal number) out.new }
 {
-    let end = from + count_digits(number);
-    let mut rest = number;
-    let mut i = end - 1;
-    while 10 <= rest {
-        out[i] = 48 + (rest % 10) as u8;
-        rest = rest / 10;
-        i -= 1;
+    if number < 10 {
+        out.push(b'0' + number as u8);
+        return;
     }
-    out[i] = 48 + rest as u8;
-    end
+    let mut digits = Buffer::new();
+    put_text(out, digits.format(number).as_bytes());
 }
 
 // A number, and the byte that ends it.
-fn put_ended(out: &mut [u8], from: usize, number: u64, end: u8) -> usize
-    requires { from + length (ended number end) ≤ length out.old }
-    ensures { Put out.old from (ended number end) result out.new }
+fn put_ended<const N: usize>(out: &mut ArrayVec<u8, N>, number: u64, end: u8)
+    requires { array_vec_len out.old + length (ended number end) ≤ N }
+    ensures { Extends out.old (ended number end) out.new }
 {
-    let behind = put_number(out, from, number);
-    put_byte(out, behind, end)
+    put_number(out, number);
+    out.push(end);
 }
 
 // The head line.
-pub fn put_head(out: &mut [u8], from: usize, n: u64, k: u64, r: u64, t: u64) -> usize
-    requires { from + line_most ≤ length out.old }
-    ensures put { Put out.old from (head_line n k r t) result out.new }
-    ensures upper_bound { result ≤ from + line_most }
+pub fn put_head<const N: usize>(out: &mut ArrayVec<u8, N>, numbers: Numbers)
+    requires { array_vec_len out.old + line_most ≤ N }
+    ensures put { Extends out.old (head_line numbers.n numbers.k numbers.rank numbers.count) out.new }
+    ensures upper_bound { array_vec_len out.new ≤ array_vec_len out.old + line_most }
 {
-    let word = put_text(out, from, b"walk ");
-    let first = put_ended(out, word, n, 32);
-    let second = put_ended(out, first, k, 32);
-    let third = put_ended(out, second, r, 32);
-    put_ended(out, third, t, 10)
+    put_text(out, b"walk ");
+    put_ended(out, numbers.n, b' ');
+    put_ended(out, numbers.k, b' ');
+    put_ended(out, numbers.rank, b' ');
+    put_ended(out, numbers.count, b'\n');
 }
 
 // One slot of an arrangement, by the number of its module.
-fn put_slot(out: &mut [u8], from: usize, number: u8, setting: u8) -> usize
-    requires { from + 8 ≤ length out.old }
-    ensures { Put out.old from (slot number setting) result out.new }
+fn put_slot<const N: usize>(out: &mut ArrayVec<u8, N>, number: u8, setting: u8)
+    requires { array_vec_len out.old + 8 ≤ N }
+    ensures { Extends out.old (slot number setting) out.new }
 {
-    let space = put_byte(out, from, 32);
-    let colon = put_ended(out, space, number as u64, 58);
-    put_number(out, colon, setting as u64)
+    out.push(b' ');
+    put_ended(out, u64::from(number), b':');
+    put_number(out, u64::from(setting));
 }
 
 // All slots of an arrangement.
-fn put_each(out: &mut [u8], from: usize, modules: &[u8], settings: &[u8]) -> usize
-    requires { (from + 8 * length modules.now ≤ length out.old) × (length settings.now ≡ length modules.now) }
-    ensures { Put out.old from (slots (length modules.now) (slot_of modules.now) (slot_of settings.now)) result out.new }
+fn put_each<const N: usize>(out: &mut ArrayVec<u8, N>, modules: &[u8], settings: &[u8])
+    requires { (array_vec_len out.old + 8 * length modules.now ≤ N) × (length settings.now ≡ length modules.now) }
+    ensures { Extends out.old (slots (length modules.now) (slot_of modules.now) (slot_of settings.now)) out.new }
 {
-    let mut end = from;
-    let mut i = 0;
-    while i < modules.len() {
-        end = put_slot(out, end, modules[i], settings[i]);
-        i += 1;
+    for (module, setting) in modules.iter().zip(settings) {
+        put_slot(out, *module, *setting);
     }
-    end
 }
 
 // The line of an arrangement.
-pub fn put_slots(
-    out: &mut [u8],
-    from: usize,
+pub fn put_slots<const N: usize>(
+    out: &mut ArrayVec<u8, N>,
     rank: u64,
     flip: usize,
     modules: &[u8],
     settings: &[u8],
-) -> usize
-    requires { (from + line_most ≤ length out.old) × (length modules.now ≤ 20) × (length settings.now ≡ length modules.now) }
-    ensures put { Put out.old from (slot_line rank flip (length modules.now) (slot_of modules.now) (slot_of settings.now)) result out.new }
-    ensures upper_bound { result ≤ from + line_most }
+)
+    requires { (array_vec_len out.old + line_most ≤ N) × (length modules.now ≤ 20) × (length settings.now ≡ length modules.now) }
+    ensures put { Extends out.old (slot_line rank flip (length modules.now) (slot_of modules.now) (slot_of settings.now)) out.new }
+    ensures upper_bound { array_vec_len out.new ≤ array_vec_len out.old + line_most }
 {
-    let space = put_ended(out, from, rank, 32);
-    let first = put_number(out, space, flip as u64);
-    let end = put_each(out, first, modules, settings);
-    put_byte(out, end, 10)
-}
-
-// A word of at most 8 bytes, and a number with a newline behind it.
-fn put_word(out: &mut [u8], from: usize, word: &[u8], number: u64) -> usize
-    requires { (from + line_most ≤ length out.old) × (length word.now ≤ 8) }
-    ensures put { Put out.old from (word.now ++ ended number 10) result out.new }
-    ensures upper_bound { result ≤ from + line_most }
-{
-    let first = put_text(out, from, word);
-    put_ended(out, first, number, 10)
+    put_ended(out, rank, b' ');
+    put_number(out, flip as u64);
+    put_each(out, modules, settings);
+    out.push(b'\n');
 }
 
 // The line of the rank that follows.
-pub fn put_next(out: &mut [u8], from: usize, rank: u64) -> usize
-    requires { from + line_most ≤ length out.old }
-    ensures put { Put out.old from (next_line rank) result out.new }
-    ensures upper_bound { result ≤ from + line_most }
+pub fn put_next<const N: usize>(out: &mut ArrayVec<u8, N>, rank: u64)
+    requires { array_vec_len out.old + line_most ≤ N }
+    ensures put { Extends out.old (next_line rank) out.new }
+    ensures upper_bound { array_vec_len out.new ≤ array_vec_len out.old + line_most }
 {
-    put_word(out, from, b"next ", rank)
+    put_text(out, b"next ");
+    put_ended(out, rank, b'\n');
 }
 
 // The line of a refused input.
-pub fn put_refused(out: &mut [u8], from: usize, number: u8) -> usize
-    requires { from + line_most ≤ length out.old }
-    ensures put { Put out.old from (refused_line number) result out.new }
-    ensures upper_bound { result ≤ from + line_most }
+pub fn put_refused<const N: usize>(out: &mut ArrayVec<u8, N>, number: u8)
+    requires { array_vec_len out.old + line_most ≤ N }
+    ensures put { Extends out.old (refused_line number) out.new }
+    ensures upper_bound { array_vec_len out.new ≤ array_vec_len out.old + line_most }
 {
-    put_word(out, from, b"refused ", number as u64)
+    put_text(out, b"refused ");
+    put_ended(out, u64::from(number), b'\n');
 }
 
 // The line of a refusal with its place.
-pub fn put_refused_at(out: &mut [u8], from: usize, number: u8, place: u8) -> usize
-    requires { from + line_most ≤ length out.old }
-    ensures put { Put out.old from (refused_at_line number place) result out.new }
-    ensures upper_bound { result ≤ from + line_most }
+pub fn put_refused_at<const N: usize>(out: &mut ArrayVec<u8, N>, number: u8, place: u8)
+    requires { array_vec_len out.old + line_most ≤ N }
+    ensures put { Extends out.old (refused_at_line number place) out.new }
+    ensures upper_bound { array_vec_len out.new ≤ array_vec_len out.old + line_most }
 {
-    let word = put_text(out, from, b"refused ");
-    let first = put_ended(out, word, number as u64, 32);
-    put_ended(out, first, place as u64, 10)
+    put_text(out, b"refused ");
+    put_ended(out, u64::from(number), b' ');
+    put_ended(out, u64::from(place), b'\n');
 }
 
 // The line of an entry of a book: count and rank stand where an arrangement has its rank and its flip.
-pub fn put_entry(
-    out: &mut [u8],
-    from: usize,
+pub fn put_entry<const N: usize>(
+    out: &mut ArrayVec<u8, N>,
     k: usize,
     count: u64,
     rank: u64,
     modules: &[u8],
     settings: &[u8],
-) -> usize
-    requires { (from + entry_most ≤ length out.old) × (length modules.now ≤ 20) × (length settings.now ≡ length modules.now) }
-    ensures put { Put out.old from (entry_line (length modules.now) k count rank (slot_of modules.now) (slot_of settings.now)) result out.new }
-    ensures upper_bound { result ≤ from + entry_most }
+)
+    requires { (array_vec_len out.old + entry_most ≤ N) × (length modules.now ≤ 20) × (length settings.now ≡ length modules.now) }
+    ensures put { Extends out.old (entry_line (length modules.now) k count rank (slot_of modules.now) (slot_of settings.now)) out.new }
+    ensures upper_bound { array_vec_len out.new ≤ array_vec_len out.old + entry_most }
 {
-    let first = put_ended(out, from, modules.len() as u64, 32);
-    let second = put_ended(out, first, k as u64, 32);
-    put_slots(out, second, count, rank as usize, modules, settings)
+    put_ended(out, modules.len() as u64, b' ');
+    put_ended(out, k as u64, b' ');
+    put_slots(out, count, rank as usize, modules, settings);
 }

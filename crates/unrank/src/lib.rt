@@ -2,21 +2,24 @@
 // before it have their renaming undone, where they stand.
 #![tactic(auto)]
 
-ghost use Rattle.std.specs.Prelude.{◌≡◌, suc, ◌+◌, ◌/◌, ◌≤◌, ◌<◌, set};
+ghost use Rattle.std.specs.Prelude.{◌≡◌, suc, ◌+◌, ◌/◌, ◌≤◌, ◌<◌, length, set};
 ghost use Rattle.rows.specs.Row.{at, row};
 ghost use Rattle.rows.specs.Search.{if_lt};
 ghost use Rattle.sizes.specs.Outcome.{Does};
 ghost use Rattle.sizes.specs.Sizes.{weight, most_slots, most_settings};
 ghost use Rattle.rows.specs.Copy.{wide};
 ghost use Rattle.order.specs.Rank.{raised_by, restored_module, restored_setting, unrank_modules, unrank_settings};
-ghost use Rattle.order.specs.Asked.{RestoreAsked, UnrankAsked, Unranked, WriteAsked};
+ghost use Rattle.order.specs.Asked.{RestoreAsked, UnrankAsked, Unranked};
 ghost use Rattle.unrank.specs.Unrank.{unrank_leaves};
 
+use rank::start::Start;
 use rows::copy;
 use rows::copy::WIDE;
-use sizes::Told;
+use sizes::Verdict;
+use sizes::permitted::Sizes;
 
-// A setting raised by d: a comparison does what a remainder would.
+// A setting raised by d: a comparison does what a remainder would. For d = 1 it is `flip::raise`, which is
+// a subtraction shorter. Here and below single numbers are bounded, which asks less than `Sizes` would.
 fn raise(k: u8, setting: u8, d: u8) -> u8
     requires { (setting < k) × (d ≤ k) × (k ≤ most_settings) }
     ensures { result ≡ raised_by k setting d }
@@ -25,7 +28,8 @@ fn raise(k: u8, setting: u8, d: u8) -> u8
     if up < k { up } else { up - k }
 }
 
-// The renaming of module x undone, with v:c in the last of n slots.
+// The renaming of module x undone, with v:c in the last of n slots: v and c are two numbers of each formula,
+// as n and k are.
 fn restore_module(n: u8, v: u8, x: u8) -> u8
     requires { (n ≤ most_slots) × (v ≤ n) × (x ≤ most_slots) }
     ensures { result ≡ restored_module n v x }
@@ -59,18 +63,17 @@ fn restore(m: usize, k: usize, v: u8, c: u8, modules: &mut [u8; WIDE], settings:
 {
     let n = (m + 1) as u8;
     let most = k as u8;
-    let mut i = 0;
-    while i < WIDE {
+    for i in 0..WIDE {
         let x = modules[i];
         modules[i] = restore_module(n, v, x);
         settings[i] = restore_setting(n, most, v, c, x, settings[i]);
-        i += 1;
     }
     modules[m] = v;
     settings[m] = c;
 }
 
-// The slots of the first n digits of a rank, and the rank without them.
+// The slots of the first n digits of a rank, and the rank without them. What the rows hold of an arrangement
+// grows from call to call, so no type holds it.
 fn unrank_slots(
     n: usize,
     k: usize,
@@ -101,26 +104,32 @@ fn unrank_slots(
 }
 
 // Writes the arrangement of a rank that has been checked into two rows of n bytes.
-pub fn write(n: usize, k: usize, rank: u64, modules: &mut [u8], settings: &mut [u8])
-    requires { WriteAsked n k rank modules.old settings.old }
-    ensures modules_after { modules.new ≡ row (unrank_modules n k rank) n }
-    ensures settings_after { settings.new ≡ row (unrank_settings n k rank) n }
+pub fn write(start: Start, modules: &mut [u8], settings: &mut [u8])
+    requires { (length modules.old ≡ start.sizes.n) × (length settings.old ≡ start.sizes.n) }
+    ensures modules_after { modules.new ≡ row (unrank_modules start.sizes.n start.sizes.k start.rank) start.sizes.n }
+    ensures settings_after { settings.new ≡ row (unrank_settings start.sizes.n start.sizes.k start.rank) start.sizes.n }
 {
+    let n = start.sizes.n;
     let mut new_modules = [0u8; WIDE];
     let mut new_settings = [0u8; WIDE];
-    unrank_slots(n, k, rank, &mut new_modules, &mut new_settings);
+    unrank_slots(
+        n,
+        start.sizes.k,
+        start.rank,
+        &mut new_modules,
+        &mut new_settings,
+    );
     copy::store(n, new_modules, modules);
     copy::store(n, new_settings, settings);
 }
 
-// Writes the arrangement of any rank into any two lent buffers.
-pub fn write_lent(n: usize, k: usize, rank: u64, modules: &mut [u8], settings: &mut [u8]) -> Told
+// Writes the arrangement of any rank into any two lent buffers. `board::write::write_lent` has the shape: the two
+// differ in what they write, and a closure for that would be no shorter.
+pub fn write_lent(n: usize, k: usize, rank: u64, modules: &mut [u8], settings: &mut [u8]) -> Verdict
     ensures { Does (unrank_leaves n k rank modules.old settings.old) result modules.new settings.new }
 {
-    let verdict = rank::check::judge(n, k, rank, modules, 0, settings);
-    if verdict.refuses() {
-        return Told { verdict, number: 0 };
-    }
-    write(n, k, rank, modules, settings);
-    Told { verdict, number: 0 }
+    rank::check::judge(n, k, rank, modules, 0, settings)?;
+    let sizes = Sizes { n, k };
+    write(Start { sizes, rank }, modules, settings);
+    Ok(())
 }

@@ -1,5 +1,6 @@
 -- The walk of a rank: it has that rank, its flip is the flip out of the rank, and moved on it is the walk of the next. Its places
 -- are those of the arrangement of the rank, to which the laws of ranks and of looking apply. Assumes nothing.
+use Rattle.std.proofs.Common.{Ok}
 use mathlib.Core.Path.{◌≡◌, sym, ap, ap₂, ◌∙◌}
 use mathlib.Core.List.{List, ◌++◌}
 use Prim.Native.Nat.{ℕ, ◌<◌}
@@ -7,8 +8,8 @@ use lib.ListN.{drop}
 use lib.Seq.{drop-append_seam}
 use Rattle.rows.specs.Row.{at, row, front}
 use Rattle.rows.proofs.Rows.{length_row, at_front, row_ext}
-use Rattle.sizes.specs.declared.Verdict.TheVariants.{Fine}
-use Rattle.sizes.specs.Refusal.{first, unless_refused}
+use Rattle.sizes.specs.Refusal.{fine, first}
+use Rattle.sizes.specs.Outcome.{answered}
 use Rattle.sizes.specs.Sizes.{weight, Permitted}
 use Rattle.sizes.proofs.Weights.{not_refused}
 use Rattle.arrangement.specs.Arrangement.{Valid}
@@ -20,7 +21,7 @@ use Rattle.order.specs.Digits.{flip_out, next_rank}
 use Rattle.order.proofs.Ranks.{rank_ext, rank_unrank, unrank_valid}
 use Rattle.order.proofs.Steps.{flip_high, next_module, next_setting_lem}
 use Rattle.look.proofs.Looks.{look_rank}
-use Rattle.walk.specs.Hand.{nothing, walk_verdict, walk_of_lem, walk_rank, walk_look, flipped_walk, walk_left, tells_rank, moves_on}
+use Rattle.walk.specs.Hand.{nothing, walk_verdict, walk_of_lem, walk_rank, walk_look, flipped_walk, handed, tells_rank, moves_on}
 
 -- a front over a front
 front_over : (f g h : ℕ → ℕ) (n : ℕ) (xs : List ℕ) → ((i : ℕ) → i < n → g i ≡ h i) → front g n (front f n xs) ≡ front h n xs
@@ -40,7 +41,7 @@ module _ (n k r : ℕ) (sizes : Permitted n k) (r_low : r < weight n k) where
   valid_there = valid_ext (λ i l. sym (module_there i l)) (λ i l. sym (setting_there i l)) (unrank_valid n k r sizes.k_low r_low)
 
   -- it is not refused
-  pub walk_fine : walk_verdict (walk_of_lem n k r) ≡ Fine
+  pub walk_fine : walk_verdict (walk_of_lem n k r) ≡ fine
   unfolding walk_verdict walk_of_lem first
   walk_fine = rw (← not_refused n k sizes) (sym (valid_fine n k _ _ valid_there))
 
@@ -77,10 +78,10 @@ module _ (n k r : ℕ) (sizes : Permitted n k) (r_low : r < weight n k) where
   }
 
   -- so the calls answer
-  pub tells_rank_lem : tells_rank (walk_of_lem n k r) ≡ record { verdict = Fine; number = r }
-  unfolding tells_rank unless_refused
+  pub tells_rank_lem : tells_rank (walk_of_lem n k r) ≡ Ok r
+  unfolding tells_rank answered
   tells_rank_lem = rw (walk_fine, walk_rank_lem)
 
-  pub moves_on_lem : moves_on (walk_of_lem n k r) ≡ record { verdict = Fine; flip = flip_out n k r; walk = walk_of_lem n k (next_rank n k r) }
-  unfolding moves_on unless_refused walk_left
+  pub moves_on_lem : moves_on (walk_of_lem n k r) ≡ Ok (record { flip = flip_out n k r; walk = walk_of_lem n k (next_rank n k r) })
+  unfolding moves_on handed
   moves_on_lem = rw (walk_fine, walk_look_lem, walk_flipped)

@@ -1,11 +1,11 @@
 -- 01, "Arrangements and sizes": the walk in hand, a record of n, k and an arrangement. It has 20 places for modules and 20 for
 -- settings; those behind n are never looked at, are 0 in a walk made from n, k and a rank, and otherwise stay. A refused walk comes
 -- back as it was given.
-use Rattle.std.specs.Prelude.{ℕ, List, replicate}
+use Rattle.std.specs.Prelude.{ℕ, List, replicate, Result, Ok, Err}
 use Rattle.rows.specs.Row.{at, front}
-use Rattle.sizes.specs.declared.Verdict.{Verdict}
-use Rattle.sizes.specs.declared.Verdict.TheVariants.{Fine, Refused}
-use Rattle.sizes.specs.Refusal.{first, unless_refused}
+use Rattle.sizes.specs.declared.Refusal.{Refusal}
+use Rattle.sizes.specs.Refusal.{Verdict, first}
+use Rattle.sizes.specs.Outcome.{answered}
 use Rattle.sizes.specs.Sizes.{sizes_verdict, most_slots}
 use Rattle.arrangement.specs.Check.{slots_verdict}
 use Rattle.flip.specs.Flip.{flipped_modules, flipped_settings, flip_length_verdict}
@@ -13,8 +13,7 @@ use Rattle.order.specs.Rank.{rank, unrank_modules, unrank_settings}
 use Rattle.order.specs.Check.{start_verdict}
 use Rattle.look.specs.Look.{look}
 use Rattle.walk.specs.declared.hand.Walk.{Walk}
-use Rattle.walk.specs.declared.hand.Made.{Made}
-use Rattle.sizes.specs.declared.Told.{Told}
+use Rattle.walk.specs.declared.hand.Kept.{Kept}
 use Rattle.walk.specs.declared.hand.Moved.{Moved}
 
 -- ---- the checks
@@ -60,26 +59,22 @@ walk_rank w = rank w.n w.k (at w.modules) (at w.settings)
 
 -- ---- what each call answers
 
--- the walk that is left: one where the call was refused, and else the other
-unfoldable pub walk_left : Verdict → Walk → Walk → Walk
-walk_left Fine refused done = done
-walk_left (Refused number place) refused done = refused
+-- an answer that has a walk: what was asked for, or the refusal with the walk that is kept
+unfoldable pub handed : {A : Type 0} → Verdict → Walk → A → Result A Kept
+handed (Ok done) kept x = Ok x
+handed (Err refusal) kept x = Err (record { refusal = refusal; walk = kept })
 
-unfoldable pub makes : ℕ → ℕ → ℕ → Made
-makes n k r = record { verdict = start_verdict n k r; walk = walk_left (start_verdict n k r) no_walk_lem (walk_of_lem n k r) }
+unfoldable pub makes : ℕ → ℕ → ℕ → Result Walk Kept
+makes n k r = handed (start_verdict n k r) no_walk_lem (walk_of_lem n k r)
 
-unfoldable pub tells_rank : Walk → Told
-tells_rank w = record { verdict = walk_verdict w; number = unless_refused (walk_verdict w) (walk_rank w) }
+unfoldable pub tells_rank : Walk → Result ℕ Refusal
+tells_rank w = answered (walk_verdict w) (walk_rank w)
 
-unfoldable pub tells_flip : Walk → Told
-tells_flip w = record { verdict = walk_verdict w; number = unless_refused (walk_verdict w) (walk_look w) }
+unfoldable pub tells_flip : Walk → Result ℕ Refusal
+tells_flip w = answered (walk_verdict w) (walk_look w)
 
-unfoldable pub flips : Walk → ℕ → Made
-flips w j = record { verdict = walk_flip_verdict w j; walk = walk_left (walk_flip_verdict w j) w (flipped_walk j w) }
+unfoldable pub flips : Walk → ℕ → Result Walk Kept
+flips w j = handed (walk_flip_verdict w j) w (flipped_walk j w)
 
-unfoldable pub moves_on : Walk → Moved
-moves_on w = record {
-  verdict = walk_verdict w;
-  flip = unless_refused (walk_verdict w) (walk_look w);
-  walk = walk_left (walk_verdict w) w (flipped_walk (walk_look w) w);
-}
+unfoldable pub moves_on : Walk → Result Moved Kept
+moves_on w = handed (walk_verdict w) w (record { flip = walk_look w; walk = flipped_walk (walk_look w) w })

@@ -1,21 +1,20 @@
 // The walk in hand: a record by value of n, k and an arrangement. It has 20 places for modules and 20
 // for settings; those behind n are never looked at, and stay. A refused walk comes back as it was
 // given.
-ghost use Rattle.std.specs.Prelude.{◌≡◌, ◌≤◌, ◌<◌};
-ghost use Rattle.rows.specs.Row.{at};
-ghost use Rattle.sizes.specs.Sizes.{weight, Permitted, most_slots};
-ghost use Rattle.arrangement.specs.Check.{slots_verdict};
-ghost use Rattle.order.specs.Rank.{rank as rank_of};
-ghost use Rattle.look.specs.Look.{look as look_of};
+ghost use Rattle.std.specs.Prelude.{◌≡◌, ◌≤◌, IfOk, take};
+ghost use Rattle.sizes.specs.Refusal.{checked};
 ghost use Rattle.walk.specs.Hand.{walk_verdict, walk_flip_verdict, walk_of_lem, no_walk_lem, flipped_walk, makes, tells_rank, tells_flip, flips, moves_on};
 ghost use Rattle.walk.specs.Asked.{PlacesAsked};
 
 use arrangement::check;
-use sizes::{Told, Verdict};
+use arrangement::lent::Arrangement;
+use rank::start::Start;
+use sizes::permitted::Sizes;
+use sizes::{Refusal, Verdict};
 
 pub const PLACES: usize = sizes::MOST_SLOTS;
 
-#[derive(Clone, Copy)]
+#[derive(Clone, Copy, Debug, PartialEq, Eq)]
 pub struct Walk {
     pub n: usize,
     pub k: usize,
@@ -23,82 +22,41 @@ pub struct Walk {
     pub settings: [u8; PLACES],
 }
 
-// A verdict, and the walk that was made.
-#[derive(Clone, Copy)]
-pub struct Made {
-    pub verdict: Verdict,
+// A refusal, and the walk that is in hand all the same: the one that was given, or 0 for every number
+// where none was.
+#[derive(Clone, Copy, Debug, PartialEq, Eq)]
+pub struct Kept {
+    pub refusal: Refusal,
     pub walk: Walk,
 }
 
-// A verdict, the flip that was made, and the walk after it.
-#[derive(Clone, Copy)]
+// The flip that was made, and the walk after it.
+#[derive(Clone, Copy, Debug, PartialEq, Eq)]
 pub struct Moved {
-    pub verdict: Verdict,
     pub flip: usize,
     pub walk: Walk,
-}
-
-// The check of the first n places.
-fn judge_places(n: usize, k: usize, modules: [u8; PLACES], settings: [u8; PLACES]) -> Verdict
-    requires { (n ≤ most_slots) × (1 ≤ k) }
-    ensures { result ≡ slots_verdict n k (at modules) (at settings) }
-{
-    check::judge_slots(n, k, &modules[..n], &settings[..n])
-}
-
-// The rank of the first n places.
-fn rank_places(n: usize, k: usize, modules: [u8; PLACES], settings: [u8; PLACES]) -> u64
-    requires { PlacesAsked n k modules settings }
-    ensures { result ≡ rank_of n k (at modules) (at settings) }
-{
-    rank::rank(n, k, &modules[..n], &settings[..n])
-}
-
-// The flip by looking at the first n places.
-fn look_places(n: usize, k: usize, modules: [u8; PLACES], settings: [u8; PLACES]) -> usize
-    requires { PlacesAsked n k modules settings }
-    ensures { (result ≡ look_of n k (at modules) (at settings)) × (result ≤ n) }
-{
-    look::look(n, k, &modules[..n], &settings[..n])
-}
-
-// The walk with its first n places flipped by j.
-fn flip_places(n: usize, k: usize, j: usize, modules: [u8; PLACES], settings: [u8; PLACES]) -> Walk
-    requires { PlacesAsked n k modules settings × (j ≤ n) }
-    ensures { result ≡ flipped_walk j (record { n = n; k = k; modules = modules; settings = settings }) }
-{
-    let mut turned_modules = modules;
-    let mut turned_settings = settings;
-    flip::flip(k, j, &mut turned_modules[..n], &mut turned_settings[..n]);
-    Walk {
-        n,
-        k,
-        modules: turned_modules,
-        settings: turned_settings,
-    }
 }
 
 // The walk with 0 for every number.
 fn no_walk() -> Walk
     ensures { result ≡ no_walk_lem }
 {
-    let none = [0u8; PLACES];
     Walk {
         n: 0,
         k: 0,
-        modules: none,
-        settings: none,
+        modules: [0; PLACES],
+        settings: [0; PLACES],
     }
 }
 
 // The walk of a rank that has been checked.
-fn walk_of(n: usize, k: usize, rank: u64) -> Walk
-    requires { Permitted n k × (rank < weight n k) }
-    ensures { result ≡ walk_of_lem n k rank }
+fn walk_of(start: Start) -> Walk
+    ensures { result ≡ walk_of_lem start.sizes.n start.sizes.k start.rank }
 {
+    let Sizes { n, k } = start.sizes;
     let mut modules = [0u8; PLACES];
     let mut settings = [0u8; PLACES];
-    unrank::write(n, k, rank, &mut modules[..n], &mut settings[..n]);
+    unrank::write(start, &mut modules[..n], &mut settings[..n]);
     Walk {
         n,
         k,
@@ -107,66 +65,75 @@ fn walk_of(n: usize, k: usize, rank: u64) -> Walk
     }
 }
 
-// The walk of any n, k and rank.
-pub fn make(n: usize, k: usize, rank: u64) -> Made
+// The walk of any n, k and rank. What a closure under `map_err` gives has no name in a proof, so this and the
+// calls that answer a walk are a `match`.
+pub fn make(n: usize, k: usize, rank: u64) -> Result<Walk, Kept>
     ensures { result ≡ makes n k rank }
 {
-    let verdict = rank::check::judge_start(n, k, rank);
-    if verdict.refuses() {
-        return Made {
-            verdict,
+    match Start::new(n, k, rank) {
+        Ok(start) => Ok(walk_of(start)),
+        Err(refusal) => Err(Kept {
+            refusal,
             walk: no_walk(),
-        };
-    }
-    Made {
-        verdict,
-        walk: walk_of(n, k, rank),
+        }),
     }
 }
 
 impl Walk {
+    // The arrangement in its first n places.
+    fn arrangement(&self) -> Result<Arrangement<'_>, Refusal>
+        ensures verdict { checked result ≡ walk_verdict self.now }
+        ensures sizes { IfOk result (λ made. (made.sizes.n ≡ self.now.n) × (made.sizes.k ≡ self.now.k)) }
+        ensures rows { IfOk result (λ made. (made.modules.now ≡ take self.now.n self.now.modules) × (made.settings.now ≡ take self.now.n self.now.settings)) }
+    {
+        let sizes = Sizes::new(self.n, self.k)?;
+        let modules = &self.modules[..sizes.n];
+        let settings = &self.settings[..sizes.n];
+        check::judge_slots(sizes.n, sizes.k, modules, settings)?;
+        Ok(Arrangement {
+            sizes,
+            modules,
+            settings,
+        })
+    }
+
     // Its check.
     pub fn judge(self) -> Verdict
         ensures { result ≡ walk_verdict self }
     {
-        let modules = self.modules;
-        let settings = self.settings;
-        let size = sizes::judge(self.n, self.k);
-        if size.refuses() {
-            return size;
-        }
-        judge_places(self.n, self.k, modules, settings)
+        self.arrangement()?;
+        Ok(())
     }
 
     // Its rank.
-    pub fn rank(self) -> Told
+    pub fn rank(self) -> Result<u64, Refusal>
         ensures { result ≡ tells_rank self }
     {
-        let modules = self.modules;
-        let settings = self.settings;
-        let verdict = self.judge();
-        if verdict.refuses() {
-            return Told { verdict, number: 0 };
-        }
-        Told {
-            verdict,
-            number: rank_places(self.n, self.k, modules, settings),
-        }
+        let arrangement = self.arrangement()?;
+        Ok(rank::rank(arrangement))
     }
 
-    // The flip out of it, by looking.
-    pub fn look(self) -> Told
+    // The flip out of it, by looking. `rank` has the shape: a closure would be longer than the call that differs.
+    pub fn look(self) -> Result<usize, Refusal>
         ensures { result ≡ tells_flip self }
     {
-        let modules = self.modules;
-        let settings = self.settings;
-        let verdict = self.judge();
-        if verdict.refuses() {
-            return Told { verdict, number: 0 };
-        }
-        Told {
-            verdict,
-            number: look_places(self.n, self.k, modules, settings) as u64,
+        let arrangement = self.arrangement()?;
+        Ok(look::look(arrangement))
+    }
+
+    // It flipped by j, where both have been checked.
+    fn flipped(self, j: usize) -> Walk
+        requires { PlacesAsked self × (j ≤ self.n) }
+        ensures { result ≡ flipped_walk j self }
+    {
+        let n = self.n;
+        let mut modules = self.modules;
+        let mut settings = self.settings;
+        flip::flip(self.k, j, &mut modules[..n], &mut settings[..n]);
+        Walk {
+            modules,
+            settings,
+            ..self
         }
     }
 
@@ -174,57 +141,39 @@ impl Walk {
     pub fn judge_flip(self, j: usize) -> Verdict
         ensures { result ≡ walk_flip_verdict self j }
     {
-        let verdict = self.judge();
-        if verdict.refuses() {
-            return verdict;
-        }
-        if j < 1 {
-            return Verdict::Refused(9, 0);
-        }
-        if self.n < j {
-            return Verdict::Refused(9, 0);
-        }
-        Verdict::Fine
+        self.judge()?;
+        flip::judge_length(self.n, j)
     }
 
     // It flipped by a free length.
-    pub fn flip(self, j: usize) -> Made
+    pub fn flip(self, j: usize) -> Result<Walk, Kept>
         ensures { result ≡ flips self j }
     {
-        let modules = self.modules;
-        let settings = self.settings;
-        let verdict = self.judge_flip(j);
-        if verdict.refuses() {
-            return Made {
-                verdict,
+        match self.judge_flip(j) {
+            Ok(()) => Ok(self.flipped(j)),
+            Err(refusal) => Err(Kept {
+                refusal,
                 walk: self,
-            };
-        }
-        Made {
-            verdict,
-            walk: flip_places(self.n, self.k, j, modules, settings),
+            }),
         }
     }
 
     // It moved to the next arrangement.
-    pub fn next(self) -> Moved
+    pub fn next(self) -> Result<Moved, Kept>
         ensures { result ≡ moves_on self }
     {
-        let modules = self.modules;
-        let settings = self.settings;
-        let verdict = self.judge();
-        if verdict.refuses() {
-            return Moved {
-                verdict,
-                flip: 0,
+        match self.arrangement() {
+            Ok(arrangement) => {
+                let j = look::look(arrangement);
+                Ok(Moved {
+                    flip: j,
+                    walk: self.flipped(j),
+                })
+            }
+            Err(refusal) => Err(Kept {
+                refusal,
                 walk: self,
-            };
-        }
-        let j = look_places(self.n, self.k, modules, settings);
-        Moved {
-            verdict,
-            flip: j,
-            walk: flip_places(self.n, self.k, j, modules, settings),
+            }),
         }
     }
 }

@@ -2,18 +2,18 @@
 -- one by one. Their lengths are those of the book's places. Assumes nothing.
 use Prim.Native.Nat.{ℕ, zero, suc, ◌+◌, ◌*◌, ◌/◌, ◌%◌, ◌≤◌, ◌<◌}
 use mathlib.Core.Path.{◌≡◌, refl, sym, ◌∙◌, ap, ap₂}
-use mathlib.Core.Bool.{true, false}
 use mathlib.Core.List.{List, [], ◌∷◌, ◌++◌}
 use native.Mathlib.Nat.{suc-mul}
 use native.Mathlib.Numerals.{add-one}
 use native.Mathlib.Omega.{arith}
-use borrow.Author.Tests.{lt-ltb, le-ltb}
 use lib.Dec.{ltb}
 use lib.ListN.{length, set, length-append}
 use Rattle.rows.specs.Row.{at, row}
 use Rattle.rows.specs.Put.{Put}
 use Rattle.rows.proofs.Puts.{put_length, put_both, put_behind, put_none, put_as}
 use Rattle.rows.proofs.Rows.{length_row, row_ext}
+use Rattle.sizes.specs.declared.Fault.TheVariants.{Length}
+use Rattle.sizes.specs.Refusal.{refused_if}
 use Rattle.order.specs.Rank.{unrank_modules, unrank_settings}
 use Rattle.order.proofs.Ranks.{unrank_valid}
 use Rattle.book.specs.declared.format.Stretch.{Stretch}
@@ -21,7 +21,7 @@ use Rattle.book.specs.Format.{format_one, bytes_of, entry_place_lem, body_place,
 use Rattle.book.proofs.Bytes.{bytes_long}
 use Rattle.book.proofs.Checks.{body_places_rise}
 use Rattle.book.proofs.Books.{entries_size, bodies_size, entry_long, body_long, book_long}
-use Rattle.writer.specs.Write.{Lists, stretches_in, stretch_at_lem, book_lent}
+use Rattle.writer.specs.Write.{Lists, stretches_in, stretch_at_lem, book_lent, room_verdict}
 use Rattle.writer.specs.Asked.{AllBookable, SlotsAsked}
 
 -- ---- the bytes of a number
@@ -227,12 +227,10 @@ module _ (l : Lists) where
       )
 
   -- the check of the buffer, by that length
-  module _ {x : ℕ} (buffer : List ℕ) (is : x ≡ body_place format_one (stretches_in l) (at l.ns) (stretches_in l)) where
-    pub room_short : length buffer < x → ltb (length buffer) (length (book_lent l)) ≡ true
-    room_short h = lt-ltb (length buffer) (length (book_lent l)) (omega (arith, lent_long))
-
-    pub room_enough : x ≤ length buffer → ltb (length buffer) (length (book_lent l)) ≡ false
-    room_enough h = le-ltb (length buffer) (length (book_lent l)) (omega (arith, lent_long))
+  pub room_told : {x : ℕ} (buffer : List ℕ) → x ≡ body_place format_one (stretches_in l) (at l.ns) (stretches_in l) →
+      refused_if Length (ltb (length buffer) x) ≡ room_verdict (length (book_lent l)) buffer
+  unfolding room_verdict
+  room_told buffer is = ap (λ x. refused_if Length (ltb (length buffer) x)) (is ∙ sym lent_long)
 
 -- ---- the book
 

@@ -7,9 +7,9 @@ use native.Mathlib.Omega.{arith}
 use lib.ListN.{length, take, drop, length-append}
 use lib.Seq.{slice, take_at}
 use Rattle.rows.proofs.Rows.{length_row, at_row}
-use Rattle.sizes.specs.declared.Verdict.TheVariants.{Fine}
-use Rattle.sizes.specs.Refusal.{unless_refused}
-use Rattle.sizes.specs.Outcome.{left}
+use Rattle.std.proofs.Common.{Ok}
+use Rattle.sizes.specs.Refusal.{fine, unless_refused}
+use Rattle.sizes.specs.Outcome.{answered, left}
 use Rattle.order.specs.Rank.{unrank_modules, unrank_settings}
 use Rattle.book.specs.Format.{Bytes, format_one, bytes_of, number_in, joined, book_of}
 use Rattle.book.specs.Read.{entries_of, n_of, k_of, count_of, rank_of, modules_of, settings_of, book_verdict, asked_verdict, Answers, answers_of}
@@ -24,40 +24,40 @@ use Rattle.writer.proofs.Checks.{Accepted, accepted, accepted_fine}
 
 -- ---- what is written reads back
 
-module _ (l : Lists) (buffer : List ℕ) (fine : write_verdict l buffer ≡ Fine) where
+module _ (l : Lists) (buffer : List ℕ) (passed : write_verdict l buffer ≡ fine) where
   -- what is left in the buffer is the book, of the length that is answered, and the bytes behind it as they were
-  pub tells_written : (write_tells l buffer).number ≡ length (book_lent l)
-  unfolding write_tells unless_refused
-  tells_written = rw fine
+  pub tells_written : write_tells l buffer ≡ Ok (length (book_lent l))
+  unfolding write_tells answered
+  tells_written = rw passed
 
   pub leaves_written : write_leaves l buffer ≡ book_lent l ++ drop (length (book_lent l)) buffer
   unfolding write_leaves left
-  leaves_written = rw fine
+  leaves_written = rw passed
 
-  pub written_book : take (write_tells l buffer).number (write_leaves l buffer) ≡ book_lent l
-  written_book = rw (tells_written, leaves_written) (take_at (book_lent l) (drop (length (book_lent l)) buffer) (length (book_lent l)) refl)
+  pub written_book : (write_tells l buffer ≡ Ok (length (book_lent l))) × (take (length (book_lent l)) (write_leaves l buffer) ≡ book_lent l)
+  written_book = (tells_written, rw leaves_written (take_at (book_lent l) (drop (length (book_lent l)) buffer) (length (book_lent l)) refl))
 
   laid : Laid format_one (stretches_in l) (stretch_at_lem l) (book_lent l)
   unfolding book_lent
   laid = book_laid format_one (stretches_in l) (stretch_at_lem l) _ refl
 
   a : Accepted l buffer
-  a = accepted l buffer fine
+  a = accepted l buffer passed
 
   -- the reader accepts it
-  pub written_accepted : book_verdict format_one (book_lent l) ≡ Fine
+  pub written_accepted : book_verdict format_one (book_lent l) ≡ fine
   written_accepted =
       sym (checked_fine format_one (book_lent l) (laid_checked format_one_sound laid a.all.bookable a.all.one_length.few a.some))
 
   module _ (i : ℕ) (h : i < stretches_in l) where
-    asked_written : asked_verdict format_one (book_lent l) (i + 1) ≡ Fine
+    asked_written : asked_verdict format_one (book_lent l) (i + 1) ≡ fine
     asked_written =
         asked_fine format_one (book_lent l) (i + 1) written_accepted (omega arith)
         (omega (arith, read_entries format_one_sound laid a.all.bookable a.all.one_length.few))
 
     -- and reads off entry i + 1 the stretch i that was given
     pub reads_back : answers_of format_one (book_lent l) (i + 1)
-        ≡ record { verdict = Fine; n = (stretch_at_lem l i).n; k = (stretch_at_lem l i).k; count = (stretch_at_lem l i).count; start = (stretch_at_lem l i).rank }
+        ≡ record { verdict = fine; n = (stretch_at_lem l i).n; k = (stretch_at_lem l i).k; count = (stretch_at_lem l i).count; start = (stretch_at_lem l i).rank }
     unfolding answers_of unless_refused
     reads_back =
         let here : i + 1 - 1 ≡ i = omega arith in
@@ -66,7 +66,7 @@ module _ (l : Lists) (buffer : List ℕ) (fine : write_verdict l buffer ≡ Fine
         let k_is = read_k format_one_sound laid a.all.bookable few i h in
         let count_is = read_count format_one_sound laid a.all.bookable few i h in
         let rank_is = read_rank format_one_sound laid a.all.bookable few i h in
-        rw (asked_written, here) (λ j. record { verdict = Fine; n = n_is j; k = k_is j; count = count_is j; start = rank_is j })
+        rw (asked_written, here) (λ j. record { verdict = fine; n = n_is j; k = k_is j; count = count_is j; start = rank_is j })
 
     -- with the first arrangement of the stretch
     pub arrangement_back : (p : ℕ) → p < (stretch_at_lem l i).n →
@@ -92,22 +92,22 @@ word_back f m i l small =
     joined_slice [] [] (λ h. bytes_of 8 (f h)) m l (words_long f i) (bytes_long 8 (f i))) ∙
     number_back 8 (f i) small
 
-module _ (xs : List ℕ) (bytes : Bytes xs) (fine : book_verdict format_one xs ≡ Fine) where
+module _ (xs : List ℕ) (bytes : Bytes xs) (passed : book_verdict format_one xs ≡ fine) where
   abbrev l : Lists
   l = lists_read xs
 
   c : Checked format_one xs
-  c = checked format_one xs fine
+  c = checked format_one xs passed
 
   as_many : stretches_in l ≡ entries_of xs
   unfolding lists_read
   as_many = length_row _ (entries_of xs)
 
   -- the reader answers what the entry says
-  told : (i : ℕ) → i < entries_of xs → answers_of format_one xs (i + 1) ≡ record { verdict = Fine; n = n_of xs i; k = k_of xs i; count = count_of xs i; start = rank_of format_one xs i }
+  told : (i : ℕ) → i < entries_of xs → answers_of format_one xs (i + 1) ≡ record { verdict = fine; n = n_of xs i; k = k_of xs i; count = count_of xs i; start = rank_of format_one xs i }
   unfolding answers_of unless_refused
   told i h =
-      let here : i + 1 - 1 ≡ i = omega arith in rw (asked_fine format_one xs (i + 1) fine (omega arith) (omega (arith, h)), here)
+      let here : i + 1 - 1 ≡ i = omega arith in rw (asked_fine format_one xs (i + 1) passed (omega arith) (omega (arith, h)), here)
 
   -- and the lists have it
   read_listed : (i : ℕ) → i < entries_of xs → stretch_at_lem l i ≡ stretch_in format_one xs i
@@ -139,7 +139,7 @@ module _ (xs : List ℕ) (bytes : Bytes xs) (fine : book_verdict format_one xs �
   }
 
   -- and the writer accepts them
-  pub rewriting_accepted : (buffer : List ℕ) → length xs ≤ length buffer → write_verdict l buffer ≡ Fine
+  pub rewriting_accepted : (buffer : List ℕ) → length xs ≤ length buffer → write_verdict l buffer ≡ fine
   rewriting_accepted buffer room = accepted_fine l buffer (record {
     all = record {
       one_length = listed;
@@ -151,7 +151,7 @@ module _ (xs : List ℕ) (bytes : Bytes xs) (fine : book_verdict format_one xs �
 
   -- and writes the book that was read
   pub rewritten : (buffer : List ℕ) → length xs ≤ length buffer →
-      ((write_tells l buffer).number ≡ length xs) × (write_leaves l buffer ≡ xs ++ drop (length xs) buffer)
+      (write_tells l buffer ≡ Ok (length xs)) × (write_leaves l buffer ≡ xs ++ drop (length xs) buffer)
   rewritten buffer room =
       let done = rewriting_accepted buffer room in
-      (tells_written l buffer done ∙ ap length same_book, leaves_written l buffer done ∙ ap (λ ys. ys ++ drop (length ys) buffer) same_book)
+      (tells_written l buffer done ∙ ap (λ ys. Ok (length ys)) same_book, leaves_written l buffer done ∙ ap (λ ys. ys ++ drop (length ys) buffer) same_book)

@@ -1,17 +1,18 @@
 -- W-201, the writing of a book: some stretches, lent as four lists of one length, and a buffer to write their book in. The lists are
 -- bytes: n and k have one byte each, rank and count eight bytes each, least first. Stretches are counted from 0 here, so that
 -- stretch i is 01's i + 1.
-use Rattle.std.specs.Prelude.{ℕ, ◌+◌, ◌*◌, List, ◌++◌, ltb, length, drop}
+use Rattle.std.specs.Prelude.{ℕ, ◌+◌, ◌*◌, List, ◌++◌, ltb, length, drop, Result}
 use Rattle.std.proofs.Math.Seq.{slice}
 use Rattle.rows.specs.Row.{at, row}
 use Rattle.rows.specs.Search.{outside}
-use Rattle.sizes.specs.declared.Verdict.{Verdict}
-use Rattle.sizes.specs.declared.Told.{Told}
-use Rattle.sizes.specs.Refusal.{first, refused_if, unless_refused}
-use Rattle.sizes.specs.Outcome.{left}
+use Rattle.sizes.specs.declared.Fault.TheVariants.{Length, Format}
+use Rattle.sizes.specs.declared.Refusal.{Refusal}
+use Rattle.sizes.specs.Refusal.{Verdict, first, refused_if}
+use Rattle.sizes.specs.Outcome.{answered, left}
 use Rattle.arrangement.specs.Check.{length_verdict}
 use Rattle.order.specs.Check.{start_verdict}
 use Rattle.book.specs.declared.format.Stretch.{Stretch}
+use Rattle.writer.specs.declared.lists.Lists.{Lists as LentLists}
 use Rattle.book.specs.Format.{bytes_of, number_in, format_one, most_entries, joined, book_of}
 use Rattle.book.specs.Read.{entries_of, first_of, book_count_verdict, Answers, answers_of}
 
@@ -26,6 +27,10 @@ pub record Lists : Type 0 where
 
 abbrev pub lists : List ℕ → List ℕ → List ℕ → List ℕ → Lists
 lists ns ks ranks counts = record { ns = ns; ks = ks; ranks = ranks; counts = counts }
+
+-- what code is lent
+abbrev pub lent : LentLists → Lists
+lent l = lists l.ns.now l.ks.now l.ranks.now l.counts.now
 
 -- how many stretches there are
 abbrev pub stretches_in : Lists → ℕ
@@ -53,7 +58,7 @@ lists_verdict l =
 
 -- 14 for no stretch or more than 64
 unfoldable pub few_verdict : ℕ → Verdict
-few_verdict e = refused_if 14 (outside 1 most_entries e)
+few_verdict e = refused_if Format (outside 1 most_entries e)
 
 -- 1, 2, 3, 8 and 15 of a stretch
 unfoldable pub stretch_verdict : Stretch → Verdict
@@ -61,7 +66,7 @@ stretch_verdict s = first (start_verdict s.n s.k s.rank) (book_count_verdict s.n
 
 -- then 4, for a buffer shorter than the book
 unfoldable pub room_verdict : ℕ → List ℕ → Verdict
-room_verdict long buffer = refused_if 4 (ltb (length buffer) long)
+room_verdict long buffer = refused_if Length (ltb (length buffer) long)
 
 -- the check of any four lists and of any buffer: per stretch the place is 01's number of the stretch
 unfoldable pub write_verdict : Lists → List ℕ → Verdict
@@ -72,10 +77,9 @@ write_verdict l buffer =
 
 -- ---- what the writing answers and leaves
 
--- the verdict, and the book's length
-unfoldable pub write_tells : Lists → List ℕ → Told
-write_tells l buffer =
-    record { verdict = write_verdict l buffer; number = unless_refused (write_verdict l buffer) (length (book_lent l)) }
+-- the book's length, or the refusal
+unfoldable pub write_tells : Lists → List ℕ → Result ℕ Refusal
+write_tells l buffer = answered (write_verdict l buffer) (length (book_lent l))
 
 -- the book, and the bytes behind it as they were
 unfoldable pub write_leaves : Lists → List ℕ → List ℕ

@@ -3,5 +3,5 @@
 #![tactic(auto)]
 
 pub mod check;
-mod lists;
+pub mod lists;
 pub mod write;

@@ -1,40 +1,32 @@
--- `entry::judge` meets its contract: it returns at the first check that refuses. Assumes nothing.
-use mathlib.Core.Path.{◌≡◌, sym, ◌∙◌}
-use Rattle.sizes.specs.declared.Verdict.{Verdict}
-use Rattle.sizes.specs.Refusal.{first}
-use Rattle.sizes.proofs.Refusals.{stops, goes_on, was_fine, faulty, faultless, last_faulty, last_faultless}
+-- `entry::judge` meets its contract: it leaves at the first check that refuses. Assumes nothing.
+use Prim.Native.Nat.{◌-◌}
+use mathlib.Core.Path.{◌≡◌, ◌∙◌, ap, ap₂}
+use Rattle.sizes.proofs.Refusals.{stops, goes_on}
 use Rattle.arrangement.specs.Check.{length_verdict}
-use Rattle.arrangement.proofs.Checks.{wrong_length, right_length}
-use Rattle.book.specs.Format.{format_one}
-use Rattle.book.specs.Read.{asked_verdict, lent_entry_verdict}
-use Rattle.entry.proofs.judge.Goals.{Else-refuses}
+use Rattle.book.specs.Read.{n_of, lent_entry_verdict}
+use Rattle.entry.proofs.judge.Goals.{After-slots-n}
 use Rattle.entry.proofs.judge.Goals as goal
 
-pub returns-then-refuses : goal.returns-then-refuses
+-- n is that of the entry asked for
+n_is : (c : After-slots-n) → let a = c.args in c.slots-n.result ≡ n_of a.book.now (a.entry - 1)
+n_is c =
+    let made = c.in_ok-asked.ensures.entry in c.slots-n.ensures.0 ∙ ap₂ (λ xs e. n_of xs (e - 1)) made.0 made.1
+
+pub returns-in_err-asked : goal.returns-in_err-asked
+unfolding lent_entry_verdict
+returns-in_err-asked c = stops _ c.from_residual.ensures.1 c.in_err-asked.ensures.verdict
+
+pub returns-in_err-refuse_if : goal.returns-in_err-refuse_if
 unfolding lent_entry_verdict length_verdict
-returns-then-refuses c = stops _ c.judge-asked.ensures c.refuses.ensures c.if-refuses.true
-
--- past the book and the entry
-asked_passed : {w later : Verdict} (c : Else-refuses) →
-    let a = c.args in w ≡ later → w ≡ first (asked_verdict format_one a.book.now a.entry) later
-asked_passed c rest = goes_on c.judge-asked.ensures c.refuses.ensures c.if-refuses.false rest
-
-pub slots-n-requires : goal.slots-n-requires
-slots-n-requires c = was_fine c.judge-asked.ensures c.refuses.ensures c.if-refuses.false
-
-pub returns-then-modules-n : goal.returns-then-modules-n
-unfolding lent_entry_verdict length_verdict
-returns-then-modules-n c =
-    asked_passed (goal.at.returns-then-modules-n c).Else-refuses (faulty 4 _ (wrong_length _ _ (λ e. c.if-modules-n.true (e ∙ sym c.slots-n.ensures.0))))
-
-pub returns-then-settings-n : goal.returns-then-settings-n
-unfolding lent_entry_verdict length_verdict
-returns-then-settings-n c =
-    asked_passed (goal.at.returns-then-settings-n c).Else-refuses (faultless 4 (right_length _ _ (c.if-modules-n.false ∙ c.slots-n.ensures.0))
-    (last_faulty 4 (wrong_length _ _ (λ e. c.if-settings-n.true (e ∙ sym c.slots-n.ensures.0)))))
+returns-in_err-refuse_if c =
+    let n = n_is (goal.at.returns-in_err-refuse_if c).After-slots-n in
+    goes_on c.in_ok-asked.ensures.verdict
+    (stops _ c.from_residual-in_err-refuse_if.ensures.1 (c.in_err-refuse_if.ensures ∙ ap (λ n. length_verdict n c.args.modules.now) n))
 
 pub returns : goal.returns
 unfolding lent_entry_verdict length_verdict
 returns c =
-    asked_passed (goal.at.returns c).Else-refuses (faultless 4 (right_length _ _ (c.if-modules-n.false ∙ c.slots-n.ensures.0))
-    (last_faultless 4 (right_length _ _ (c.if-settings-n.false ∙ c.slots-n.ensures.0))))
+    let n = n_is (goal.at.returns c).After-slots-n in
+    goes_on c.in_ok-asked.ensures.verdict
+    (goes_on (c.in_ok-refuse_if.ensures ∙ ap (λ n. length_verdict n c.args.modules.now) n)
+    (c.refuse_if-2.ensures ∙ ap (λ n. length_verdict n c.args.settings.now) n))

@@ -5,8 +5,8 @@ use native.Mathlib.Omega.{arith}
 use Rattle.flip.proofs.Flips.{raised_up, raised_round}
 use Rattle.flip.proofs.raise.Goals as goal
 
-pub returns-then-up-k : goal.returns-then-up-k
-returns-then-up-k c = sym (raised_round _ _ c.if-up-k.true)
+pub returns-then-from-k : goal.returns-then-from-k
+returns-then-from-k c = sym (raised_round _ _ (omega arith))
 
-pub returns-else-up-k : goal.returns-else-up-k
-returns-else-up-k c = let ne = c.if-up-k.false in sym (raised_up _ _ (omega arith))
+pub returns-else-from-k : goal.returns-else-from-k
+returns-else-from-k c = let ne = c.if-from-k.false in sym (raised_up _ _ (omega arith))

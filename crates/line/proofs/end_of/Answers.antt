@@ -1,19 +1,11 @@
-use mathlib.Core.Path.{refl}
-use native.Mathlib.Omega.{arith}
-use Rattle.line.proofs.Ends.{ends_here, ends_later, ends_before}
+-- `line::end_of` meets its contract: the line ends behind the first newline, or with the input. Assumes nothing.
+use Rattle.std.proofs.Common.{arith, sym, drop, length-drop}
+use Rattle.line.proofs.Ends.{behind, ends_at, ends_nowhere}
 use Rattle.line.proofs.end_of.Goals as goal
 
-pub loop-i-init : goal.loop-i-init
-loop-i-init c = (c.requires, refl)
+pub returns-in-Some : goal.returns-in-Some
+returns-in-Some c = omega (arith, ends_at (drop c.args.from c.args.input.now) c.in-Some.i (rw (behind c.args.input.now c.args.from) at (sym c.in-Some.ensures)))
 
-pub returns-then-input-i-eq10 : goal.returns-then-input-i-eq10
-returns-then-input-i-eq10 c =
-    omega (arith, ends_here c.args.input.now c.loop-i.i c.loop-i-test.true c.if-input-i-eq10.true)
-
-pub loop-i-preserved : goal.loop-i-preserved
-loop-i-preserved c =
-    let later = ends_later c.args.input.now c.loop-i.i c.loop-i-test.true c.if-input-i-eq10.false in (omega arith, omega arith)
-
-pub returns : goal.returns
-returns c =
-    omega (arith, ends_before c.args.input.now c.loop-i.i c.loop-i-test.false)
+pub returns-in-None : goal.returns-in-None
+returns-in-None c =
+    omega (arith, ends_nowhere (drop c.args.from c.args.input.now) (rw (behind c.args.input.now c.args.from) at (sym c.in-None.ensures)), length-drop c.args.from c.args.input.now)

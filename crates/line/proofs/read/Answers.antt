@@ -1,41 +1,25 @@
 -- `line::read` meets its contract: the four numbers stand one behind the other, up to the end. Assumes nothing.
-use native.Mathlib.Omega.{arith}
-use Rattle.line.proofs.Readings.{number_there, none_there, bad_first, bad_second, bad_third, bad_fourth, bad_behind, line_read}
+use Rattle.std.proofs.Common.{sym}
+use Rattle.std.proofs.lemmas.Bool.{eqb-false, eqb-true}
+use Rattle.line.proofs.Readings.{bad_first, bad_second, bad_third, bad_fourth, bad_behind, line_read}
 use Rattle.line.proofs.read.Goals as goal
 
-pub returns-in_default : goal.returns-in_default
-returns-in_default c = bad_first _ (none_there _ _ _ c.read_number.ensures c.in_default.is)
+pub returns-in_err-n : goal.returns-in_err-n
+returns-in_err-n c = rw c.from_residual.ensures (bad_first _ c.in_err-n.ensures)
 
-pub returns-in_default-read_number : goal.returns-in_default-read_number
-returns-in_default-read_number c =
-    let first = number_there _ _ _ _ _ c.read_number.ensures c.in-Number.is in
-    bad_second first (none_there _ _ _ c.read_number-2.ensures c.in_default-read_number.is)
+pub returns-in_err-k : goal.returns-in_err-k
+returns-in_err-k c = rw c.from_residual-in_err-k.ensures (bad_second c.in_ok-n.ensures c.in_err-k.ensures)
 
-pub returns-in_default-read_number-2 : goal.returns-in_default-read_number-2
-returns-in_default-read_number-2 c =
-    let first = number_there _ _ _ _ _ c.read_number.ensures c.in-Number.is in
-    let second = number_there _ _ _ _ _ c.read_number-2.ensures c.in-Number-read_number.is in
-    bad_third first second (none_there _ _ _ c.read_number-3.ensures c.in_default-read_number-2.is)
+pub returns-in_err-rank : goal.returns-in_err-rank
+returns-in_err-rank c = rw c.from_residual-in_err-rank.ensures (bad_third c.in_ok-n.ensures c.in_ok-k.ensures c.in_err-rank.ensures)
 
-pub returns-in_default-read_number-3 : goal.returns-in_default-read_number-3
-returns-in_default-read_number-3 c =
-    let first = number_there _ _ _ _ _ c.read_number.ensures c.in-Number.is in
-    let second = number_there _ _ _ _ _ c.read_number-2.ensures c.in-Number-read_number.is in
-    let third = number_there _ _ _ _ _ c.read_number-3.ensures c.in-Number-read_number-2.is in
-    bad_fourth first second third (none_there _ _ _ c.read_number-4.ensures c.in_default-read_number-3.is)
+pub returns-in_err-count : goal.returns-in_err-count
+returns-in_err-count c =
+    rw c.from_residual-in_err-count.ensures (bad_fourth c.in_ok-n.ensures c.in_ok-k.ensures c.in_ok-rank.ensures c.in_err-count.ensures)
 
-pub returns-then-after_t-input : goal.returns-then-after_t-input
-returns-then-after_t-input c =
-    let first = number_there _ _ _ _ _ c.read_number.ensures c.in-Number.is in
-    let second = number_there _ _ _ _ _ c.read_number-2.ensures c.in-Number-read_number.is in
-    let third = number_there _ _ _ _ _ c.read_number-3.ensures c.in-Number-read_number-2.is in
-    let fourth = number_there _ _ _ _ _ c.read_number-4.ensures c.in-Number-read_number-3.is in
-    bad_behind first second third fourth (λ e. omega arith)
+pub returns-then-not-is_empty : goal.returns-then-not-is_empty
+returns-then-not-is_empty c =
+    bad_behind c.in_ok-n.ensures c.in_ok-k.ensures c.in_ok-rank.ensures c.in_ok-count.ensures (eqb-false _ _ (sym c.if-not-is_empty.ensures))
 
 pub returns : goal.returns
-returns c =
-    let first = number_there _ _ _ _ _ c.read_number.ensures c.in-Number.is in
-    let second = number_there _ _ _ _ _ c.read_number-2.ensures c.in-Number-read_number.is in
-    let third = number_there _ _ _ _ _ c.read_number-3.ensures c.in-Number-read_number-2.is in
-    let fourth = number_there _ _ _ _ _ c.read_number-4.ensures c.in-Number-read_number-3.is in
-    line_read first second third fourth (omega arith)
+returns c = line_read c.in_ok-n.ensures c.in_ok-k.ensures c.in_ok-rank.ensures c.in_ok-count.ensures (eqb-true _ _ (sym c.if-not-is_empty.ensures))

@@ -1,55 +1,26 @@
-use mathlib.Core.Path.{◌≡◌, sym, ◌∙◌}
-use mathlib.Core.Bool.{true}
-use native.Mathlib.Omega.{arith}
-use Rattle.rows.specs.Row.{at}
-use Rattle.rows.proofs.Cases.{below_range, above_range}
-use Rattle.line.specs.Line.{goes_on_lem, ReadsPart}
-use Rattle.line.proofs.Readings.{Digit, goes_digit, reading_first, reading_on, reading_ends, no_byte, no_digit, stuck, run_out}
-use Rattle.line.proofs.read_number.Goals.{Else-not-goes_on}
+use Rattle.std.proofs.Common.{arith}
+use Rattle.line.proofs.Readings.{no_byte, no_digit, reading_first, reading_on, reading_ends, stuck, run_out}
+use Rattle.line.proofs.read_number.Goals.{then-first-lt48-via-then-first-lt48, then-first-lt48-via-else-first-lt48+then-first-gt57}
 use Rattle.line.proofs.read_number.Goals as goal
 
-pub returns-then-input-from : goal.returns-then-input-from
-returns-then-input-from c = no_byte _ _ _ c.requires c.if-input-from.true
+pub returns-in_err-first : goal.returns-in_err-first
+returns-in_err-first c = rw c.from_residual.ensures (no_byte _ _ c.requires c.in_err-first.ensures.cases)
 
 pub returns-then-first-lt48 : goal.returns-then-first-lt48
-returns-then-first-lt48 c = no_digit _ _ _ c.requires c.if-input-from.false (below_range 48 57 _ c.if-first-lt48.true)
-
-pub returns-then-first-gt57 : goal.returns-then-first-gt57
-returns-then-first-gt57 c = no_digit _ _ _ c.requires c.if-input-from.false (above_range 48 57 _ c.if-first-lt48.false c.if-first-gt57.true)
+returns-then-first-lt48 c =
+    no_digit _ c.requires c.in_ok-first.ensures.cases.0 (λ low high. elim c.then-first-lt48.branch [ then-first-lt48-via-then-first-lt48 w ↦ omega arith | then-first-lt48-via-else-first-lt48+then-first-gt57 w ↦ omega arith ])
 
 pub loop-i-init : goal.loop-i-init
-loop-i-init c = reading_first _ _ c.if-input-from.false c.if-first-lt48.false c.if-first-gt57.false
+loop-i-init c = reading_first c.in_ok-first.ensures.cases.0 (omega arith) (omega arith) c.from-value.ensures
 
 pub returns-then-byte-end : goal.returns-then-byte-end
-unfolding ReadsPart
 returns-then-byte-end c = reading_ends c.loop-i.invariant c.loop-i-test.true c.if-byte-end.true
 
-pub returns-then-not-goes_on : goal.returns-then-not-goes_on
-returns-then-not-goes_on c = stuck _ c.requires c.loop-i.invariant c.loop-i-test.true c.if-byte-end.false (sym c.goes_on.ensures ∙ c.if-not-goes_on.true)
-
--- the byte is a digit that may follow
-more : (c : Else-not-goes_on) →
-    goes_on_lem c.loop-i.value (at c.args.input.now c.loop-i.i) ≡ true
-more c = sym c.goes_on.ensures ∙ c.if-not-goes_on.false
-
-digit : (c : Else-not-goes_on) →
-    Digit c.loop-i.value (at c.args.input.now c.loop-i.i)
-digit c = goes_digit _ _ (more c)
-
-pub overflow_mul-value : goal.overflow_mul-value
-overflow_mul-value c = omega (arith, (digit (goal.at.overflow_mul-value c).Else-not-goes_on).fits)
-
-pub overflow_sub-value-in-loop-i : goal.overflow_sub-value-in-loop-i
-overflow_sub-value-in-loop-i c = omega (arith, (digit (goal.at.overflow_sub-value-in-loop-i c).Else-not-goes_on).low)
-
-pub overflow_cast-value-in-loop-i : goal.overflow_cast-value-in-loop-i
-overflow_cast-value-in-loop-i c = omega (arith, (digit (goal.at.overflow_cast-value-in-loop-i c).Else-not-goes_on).high)
-
-pub overflow_add-value : goal.overflow_add-value
-overflow_add-value c = omega (arith, (digit (goal.at.overflow_add-value c).Else-not-goes_on).fits)
+pub returns-in_err-value : goal.returns-in_err-value
+returns-in_err-value c = rw c.from_residual-in_err-value.ensures (stuck _ c.requires c.loop-i.invariant c.loop-i-test.true c.if-byte-end.false c.in_err-value.ensures)
 
 pub loop-i-preserved : goal.loop-i-preserved
-loop-i-preserved c = reading_on c.loop-i.invariant c.loop-i-test.true (more (goal.at.loop-i-preserved c).Else-not-goes_on)
+loop-i-preserved c = reading_on c.loop-i.invariant c.loop-i-test.true c.in_ok-value.ensures
 
 pub returns : goal.returns
 returns c = run_out _ c.requires c.loop-i.invariant c.loop-i-test.false

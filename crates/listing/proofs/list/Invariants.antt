@@ -1,12 +1,6 @@
--- `listing::list` is safe and ends. The loop's invariant: the buffer has room for a line, and what stands in it ends within it.
--- The measure is t less i. Assumes nothing.
-use Prim.Native.Nat.{◌-◌, ◌≤◌}
-use mathlib.Core.Path.{◌≡◌}
-use lib.ListN.{length}
+-- `listing::list` is safe and ends. The loop's invariant: the walk is at some rank below T. Assumes nothing.
+use Rattle.listing.proofs.Walks.{Stands}
 use Rattle.listing.proofs.list.Given as goal
 
-abbrev pub invariant-loop-i : goal.invariant-loop-i
-invariant-loop-i g l = (length l.out ≡ length l.initial.out) × (l.end ≤ length l.out)
-
-abbrev pub decreases-loop-i : goal.decreases-loop-i
-decreases-loop-i g l = l.t - l.i
+abbrev pub invariant-loop : goal.invariant-loop
+invariant-loop g l = Stands l.fn.numbers.n l.fn.numbers.k l.walk

@@ -1,18 +1,14 @@
--- `step::judge` meets its contract: it returns at the first check that refuses. Assumes nothing.
-use Rattle.sizes.proofs.Refusals.{stops, goes_on, was_fine}
-use Rattle.arrangement.proofs.Validity.{fit}
+-- `step::judge` meets its contract: it leaves at the first check that refuses. Assumes nothing.
+use mathlib.Core.Path.{◌∙◌}
+use Rattle.sizes.proofs.Refusals.{stops, goes_on}
 use Rattle.step.specs.Step.{lent_step_verdict}
-use Rattle.board.proofs.Checks.{lent_board}
 use Rattle.step.proofs.judge.Goals as goal
 
-pub returns-then-refuses : goal.returns-then-refuses
+pub returns-in_err-board : goal.returns-in_err-board
 unfolding lent_step_verdict
-returns-then-refuses c = stops _ c.judge_buffers-lent.ensures c.refuses.ensures c.if-refuses.true
-
-pub judge_step-requires : goal.judge_step-requires
-judge_step-requires c = lent_board (fit _ _ _ _ _ (was_fine c.judge_buffers-lent.ensures c.refuses.ensures c.if-refuses.false))
+returns-in_err-board c = stops _ c.from_residual.ensures.1 c.in_err-board.ensures.verdict
 
 pub returns : goal.returns
 unfolding lent_step_verdict
 returns c =
-    goes_on c.judge_buffers-lent.ensures c.refuses.ensures c.if-refuses.false c.judge_step.ensures
+    let board = c.in_ok-board.ensures in goes_on board.verdict (c.judge_step.ensures ∙ rw (board.sizes.0, board.sizes.1, board.rows.0, board.rows.1))

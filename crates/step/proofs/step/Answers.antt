@@ -35,9 +35,6 @@ returns-then-n-x c =
 pub place-counter-requires : goal.place-counter-requires
 place-counter-requires c = omega (arith, digit (goal.at.place-counter-requires c).Else-n-x)
 
-pub overflow_mul-k : goal.overflow_mul-k
-overflow_mul-k c = omega (arith, digit (goal.at.overflow_mul-k c).Else-n-x)
-
 pub overflow_sub-k : goal.overflow_sub-k
 overflow_sub-k c = omega (arith, digit (goal.at.overflow_sub-k c).Else-n-x)
 

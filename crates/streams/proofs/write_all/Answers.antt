@@ -1,5 +1,5 @@
 use Rattle.streams.proofs.Passings.{passed_on}
 use Rattle.streams.proofs.write_all.Goals as goal
 
-pub loop-done-preserved : goal.loop-done-preserved
-loop-done-preserved g c = passed_on _ c.loop-done.invariant c.write.ensures.bytes c.write.ensures.bound c.unwrap_or-count.ensures
+pub loop-rest-preserved : goal.loop-rest-preserved
+loop-rest-preserved g c = passed_on _ c.loop-rest.invariant c.write.ensures.bytes c.write.ensures.bound c.unwrap_or-count.ensures

@@ -3,12 +3,12 @@ use Rattle.order.proofs.Recursion.{blank_asked, modules_stored, settings_stored}
 use Rattle.unrank.proofs.write.Goals as goal
 
 pub unrank_slots-requires : goal.unrank_slots-requires
-unrank_slots-requires c = blank_asked c.requires.sizes
+unrank_slots-requires c = blank_asked c.args.start.sizes.permitted
 
 pub returns : goal.returns
 returns c =
     let slots = c.unrank_slots.ensures.unranked in
-    let asked = c.requires in record {
-      modules_after = modules_stored asked.rank slots _ asked.modules c.store.ensures;
-      settings_after = settings_stored asked.rank slots _ asked.settings c.store-2.ensures;
+    let below = c.args.start.below in record {
+      modules_after = modules_stored below slots _ c.requires.0 c.store.ensures;
+      settings_after = settings_stored below slots _ c.requires.1 c.store-2.ensures;
     }

@@ -1,57 +1,52 @@
 -- `arrangement::check::judge_slots` meets its contract: each search has the place that its check names, and the first of the
 -- three that refuses is answered. Assumes nothing.
-use mathlib.Core.Path.{◌≡◌, refl}
+use mathlib.Core.Path.{◌≡◌, refl, sym, ◌∙◌}
 use native.Mathlib.Omega.{arith}
 use Rattle.rows.specs.Row.{at}
 use Rattle.rows.specs.Search.{lowest}
+use Rattle.sizes.specs.declared.Fault.TheVariants.{Module, Repeat, Setting}
 use Rattle.sizes.specs.Refusal.{refused_at_lem}
-use Rattle.sizes.proofs.Refusals.{stops, goes_on, was_fine}
+use Rattle.sizes.proofs.Refusals.{stops, goes_on}
 use Rattle.arrangement.specs.Check.{bad_module, repeated, slots_verdict}
 use Rattle.arrangement.proofs.Checks.{searched, place_le, module_place, setting_place, modules_marked}
-use Rattle.arrangement.proofs.check.judge_slots.Goals.{After-refused_at-module, After-refused_at-repeat}
+use Rattle.arrangement.proofs.check.judge_slots.Goals.{After-refuse_at, After-refuse_at-2}
 use Rattle.arrangement.proofs.check.judge_slots.Goals as goal
 
-pub refused_at-module-requires : goal.refused_at-module-requires
-refused_at-module-requires c =
-    let p = place_le _ c.requires.2 c.first_outside.ensures in omega arith
+pub refuse_at-requires : goal.refuse_at-requires
+refuse_at-requires c = omega (arith, c.requires.0, place_le _ c.requires.2 c.first_outside.ensures)
 
 -- what the check by 5 answers, and then that by 6
-five : (c : After-refused_at-module) →
-    c.refused_at-module.result ≡ refused_at_lem 5 (lowest (bad_module c.args.n (at c.args.modules.now)) c.args.n)
-five c =
-    searched 5 _ _ c.requires.2 c.refused_at-module.ensures c.first_outside.ensures (module_place _ _)
+five : (c : After-refuse_at) →
+    c.refuse_at.result ≡ refused_at_lem Module (lowest (bad_module c.args.n (at c.args.modules.now)) c.args.n)
+five c = searched Module _ _ c.requires.2 c.refuse_at.ensures c.first_outside.ensures (module_place _ _)
 
-six : (c : After-refused_at-repeat) →
-    c.refused_at-repeat.result ≡ refused_at_lem 6 (lowest (repeated (at c.args.modules.now)) c.args.n)
-six c =
-    searched 6 _ _ c.requires.2 c.refused_at-repeat.ensures c.first_repeat.ensures refl
+six : (c : After-refuse_at-2) →
+    c.refuse_at-2.result ≡ refused_at_lem Repeat (lowest (repeated (at c.args.modules.now)) c.args.n)
+six c = searched Repeat _ _ c.requires.2 c.refuse_at-2.ensures c.first_repeat.ensures refl
 
-pub returns-then-refuses : goal.returns-then-refuses
+pub returns-in_err-refuse_at : goal.returns-in_err-refuse_at
 unfolding slots_verdict
-returns-then-refuses c = stops _ (five (goal.at.returns-then-refuses c).After-refused_at-module) c.refuses.ensures c.if-refuses.true
+returns-in_err-refuse_at c = stops _ c.from_residual.ensures.1 (sym c.in_err-refuse_at.was ∙ five (goal.at.returns-in_err-refuse_at c).After-refuse_at)
 
 pub first_repeat-requires : goal.first_repeat-requires
 first_repeat-requires c =
-    let asked = c.requires in
-    modules_marked _ _ asked.0 asked.2 (was_fine (five (goal.at.first_repeat-requires c).After-refused_at-module) c.refuses.ensures c.if-refuses.false)
+    modules_marked _ _ c.requires.0 c.requires.2 (sym c.in_ok-refuse_at.was ∙ five (goal.at.first_repeat-requires c).After-refuse_at)
 
-pub refused_at-repeat-requires : goal.refused_at-repeat-requires
-refused_at-repeat-requires c =
-    let p = place_le _ c.requires.2 c.first_repeat.ensures in omega arith
+pub refuse_at-requires-2 : goal.refuse_at-requires-2
+refuse_at-requires-2 c = omega (arith, c.requires.0, place_le _ c.requires.2 c.first_repeat.ensures)
 
-pub returns-then-refuses-2 : goal.returns-then-refuses-2
+pub returns-in_err-refuse_at-2 : goal.returns-in_err-refuse_at-2
 unfolding slots_verdict
-returns-then-refuses-2 c =
-    goes_on (five (goal.at.returns-then-refuses-2 c).After-refused_at-module) c.refuses.ensures c.if-refuses.false
-    (stops _ (six (goal.at.returns-then-refuses-2 c).After-refused_at-repeat) c.refuses-2.ensures c.if-refuses-2.true)
+returns-in_err-refuse_at-2 c =
+    goes_on (sym c.in_ok-refuse_at.was ∙ five (goal.at.returns-in_err-refuse_at-2 c).After-refuse_at)
+    (stops _ c.from_residual-in_err-refuse_at-2.ensures.1 (sym c.in_err-refuse_at-2.was ∙ six (goal.at.returns-in_err-refuse_at-2 c).After-refuse_at-2))
 
-pub refused_at-requires : goal.refused_at-requires
-refused_at-requires c =
-    let p = place_le _ c.requires.3 c.first_outside-2.ensures in omega arith
+pub refuse_at-requires-3 : goal.refuse_at-requires-3
+refuse_at-requires-3 c = omega (arith, c.requires.0, place_le _ c.requires.3 c.first_outside-2.ensures)
 
 pub returns : goal.returns
 unfolding slots_verdict
 returns c =
-    goes_on (five (goal.at.returns c).After-refused_at-module) c.refuses.ensures c.if-refuses.false
-    (goes_on (six (goal.at.returns c).After-refused_at-repeat) c.refuses-2.ensures c.if-refuses-2.false
-    (searched 7 _ _ c.requires.3 c.refused_at.ensures c.first_outside-2.ensures (setting_place _ _ _ c.requires.1)))
+    goes_on (sym c.in_ok-refuse_at.was ∙ five (goal.at.returns c).After-refuse_at)
+    (goes_on (sym c.in_ok-refuse_at-2.was ∙ six (goal.at.returns c).After-refuse_at-2)
+    (searched Setting _ _ c.requires.3 c.refuse_at-3.ensures c.first_outside-2.ensures (setting_place _ _ _ c.requires.1)))

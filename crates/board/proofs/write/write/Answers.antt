@@ -5,7 +5,6 @@ use Rattle.board.proofs.write.write.Goals as goal
 
 pub returns : goal.returns
 returns c =
-    let asked = c.requires in
     is_board (digit_at _ c.take_digits-taken.ensures)
-    (counters_stored _ _ _ _ c.counters.ensures c.store.ensures asked.lent.counters)
-    (pointers_stored _ _ _ _ c.pointers.ensures c.store-2.ensures asked.lent.pointers)
+    (counters_stored _ _ _ _ c.counters.ensures c.store.ensures c.requires.0)
+    (pointers_stored _ _ _ _ c.pointers.ensures c.store-2.ensures c.requires.1)

@@ -1,89 +1,78 @@
--- `book::check::judge_book` meets its contract: it returns at the first check that refuses. Assumes nothing.
-use Prim.Native.Nat.{◌≤◌}
-use mathlib.Core.Path.{◌≡◌, refl}
+-- `book::check::judge_book` meets its contract: it leaves at the first check that refuses. Assumes nothing.
+use mathlib.Core.Path.{◌≡◌, sym, ◌∙◌, ap}
 use native.Mathlib.Omega.{arith}
+use lib.Dec.{ltb}
 use lib.ListN.{length}
-use borrow.Author.Tests.{lt-ltb, le-ltb}
-use Rattle.rows.specs.Row.{at}
-use Rattle.rows.proofs.Cases.{below_range, above_range, in_range}
-use Rattle.sizes.specs.declared.Verdict.{Verdict}
-use Rattle.sizes.specs.Refusal.{first}
-use Rattle.sizes.proofs.Refusals.{stops, goes_on, was_fine, faulty, faultless}
-use Rattle.book.specs.Format.{format_one, most_entries, entry_place_lem}
+use Rattle.sizes.specs.declared.Fault.TheVariants.{Contents}
+use Rattle.sizes.specs.Refusal.{refused_if}
+use Rattle.sizes.proofs.Refusals.{stops, goes_on}
+use Rattle.book.specs.Format.{format_one, entry_place_lem}
 use Rattle.book.specs.Asked.{ContentsAsked}
-use Rattle.book.specs.Read.{entries_of, cut_verdict, head_verdict, book_verdict}
-use Rattle.book.proofs.Checks.{misplaced, in_place, bodies_asked}
-use Rattle.book.proofs.check.judge_book.Goals.{Else-entries-gt-MOST_ENTRIES, Else-book-entry_place}
+use Rattle.book.specs.Read.{entries_of, first_of, cut_verdict, book_verdict}
+use Rattle.book.proofs.Checks.{some_entries, uncut, contents_asked, bodies_asked}
+use Rattle.book.proofs.check.judge_book.Goals.{After-entry_place, In_ok-refuse_if-2}
 use Rattle.book.proofs.check.judge_book.Goals as goal
 
-pub returns-then-book-lt2 : goal.returns-then-book-lt2
-unfolding book_verdict cut_verdict head_verdict entries_of format_one
-returns-then-book-lt2 c = faulty 13 _ (lt-ltb _ 2 c.if-book-lt2.true)
+pub returns-in_err-refuse_if : goal.returns-in_err-refuse_if
+unfolding book_verdict cut_verdict
+returns-in_err-refuse_if c = stops _ c.from_residual.ensures.1 c.in_err-refuse_if.ensures
 
-pub returns-then-book-ne1 : goal.returns-then-book-ne1
-unfolding book_verdict cut_verdict head_verdict entries_of format_one
-returns-then-book-ne1 c =
-    faultless 13 (le-ltb _ 2 c.if-book-lt2.false) (faulty 14 _ (misplaced _ 1 _ c.if-book-ne1.true))
+pub judge_head-requires : goal.judge_head-requires
+unfolding cut_verdict
+judge_head-requires c = uncut 2 _ (sym c.in_ok-refuse_if.ensures)
 
-pub overflow_cast-entries : goal.overflow_cast-entries
-overflow_cast-entries c = omega (arith, c.type_inv.book 1)
+pub returns-in_err-judge_head : goal.returns-in_err-judge_head
+unfolding book_verdict cut_verdict
+returns-in_err-judge_head c = goes_on c.in_ok-refuse_if.ensures (stops _ c.from_residual-in_err-judge_head.ensures.1 c.in_err-judge_head.ensures)
 
-pub returns-then-entries-lt1 : goal.returns-then-entries-lt1
-unfolding book_verdict cut_verdict head_verdict entries_of format_one
-returns-then-entries-lt1 c =
-    faultless 13 (le-ltb _ 2 c.if-book-lt2.false)
-    (faulty 14 _ (in_place c.if-book-ne1.false (below_range 1 most_entries _ c.if-entries-lt1.true)))
+pub bounds-book-1 : goal.bounds-book-1
+unfolding cut_verdict
+bounds-book-1 c = omega (arith, uncut 2 c.args.book.now (sym c.in_ok-refuse_if.ensures))
 
-pub returns-then-entries-gt-MOST_ENTRIES : goal.returns-then-entries-gt-MOST_ENTRIES
-unfolding book_verdict cut_verdict head_verdict entries_of format_one
-returns-then-entries-gt-MOST_ENTRIES c =
-    faultless 13 (le-ltb _ 2 c.if-book-lt2.false)
-    (faulty 14 _ (in_place c.if-book-ne1.false (above_range 1 most_entries _ c.if-entries-lt1.false c.if-entries-gt-MOST_ENTRIES.true)))
-
--- past the head
-headed : {w later : Verdict} (c : Else-entries-gt-MOST_ENTRIES) →
-    let xs = c.args.book.now in
-    w ≡ later → w ≡ first (cut_verdict 2 xs) (first (head_verdict format_one xs) later)
-unfolding cut_verdict head_verdict entries_of format_one
-headed c rest =
-    faultless 13 (le-ltb _ 2 c.if-book-lt2.false)
-    (faultless 14 (in_place c.if-book-ne1.false (in_range 1 most_entries _ c.if-entries-lt1.false c.if-entries-gt-MOST_ENTRIES.false)) rest)
-
-pub returns-then-book-entry_place : goal.returns-then-book-entry_place
-unfolding book_verdict cut_verdict head_verdict entries_of format_one
-returns-then-book-entry_place c =
-    let xs = c.args.book.now in
-    headed (goal.at.returns-then-book-entry_place c).Else-entries-gt-MOST_ENTRIES (faulty 13 _ (lt-ltb (length xs) (entry_place_lem (at xs 1)) (omega (arith, c.entry_place.ensures, c.if-book-entry_place.true))))
-
--- past the contents' end
-whole : (c : Else-book-entry_place) →
-    let xs = c.args.book.now in entry_place_lem (entries_of xs) ≤ length xs
+pub entry_place-requires : goal.entry_place-requires
 unfolding entries_of
-whole c = omega (arith, c.entry_place.ensures, c.if-book-entry_place.false)
+entry_place-requires c = omega (arith, c.from-entries.ensures, some_entries format_one _ (sym c.in_ok-judge_head.ensures))
 
-asked : (c : Else-book-entry_place) → ContentsAsked c.args.book.now
+-- what is read is the entry number, and the place is where the contents end
+count_is : (c : After-entry_place) → c.from-entries.result ≡ entries_of c.args.book.now
 unfolding entries_of
-asked c = record { few = c.if-entries-gt-MOST_ENTRIES.false; uncut = whole c }
+count_is c = c.from-entries.ensures
 
-pub judge_contents-contents-requires : goal.judge_contents-contents-requires
-unfolding entries_of
-judge_contents-contents-requires c = (asked (goal.at.judge_contents-contents-requires c).Else-book-entry_place, refl)
+cut : (c : After-entry_place) →
+    let xs = c.args.book.now in refused_if Contents (ltb (length xs) c.entry_place.result) ≡ cut_verdict (entry_place_lem (entries_of xs)) xs
+unfolding cut_verdict entries_of
+cut c = ap (λ p. refused_if Contents (ltb (length c.args.book.now) p)) (c.entry_place.ensures ∙ ap entry_place_lem c.from-entries.ensures)
 
-pub returns-then-refuses : goal.returns-then-refuses
-unfolding book_verdict cut_verdict entries_of
-returns-then-refuses c =
-    headed (goal.at.returns-then-refuses c).Else-entries-gt-MOST_ENTRIES
-    (faultless 13 (le-ltb _ _ (whole (goal.at.returns-then-refuses c).Else-book-entry_place))
-    (stops _ c.judge_contents-contents.ensures c.refuses.ensures c.if-refuses.true))
+asked : (c : In_ok-refuse_if-2) → ContentsAsked c.args.book.now
+unfolding cut_verdict entries_of
+asked c =
+    contents_asked format_one _ (sym c.in_ok-judge_head.ensures)
+    (sym (c.in_ok-refuse_if-2.ensures ∙ ap (λ p. refused_if Contents (ltb (length c.args.book.now) p)) (c.entry_place.ensures ∙ ap entry_place_lem c.from-entries.ensures)))
+
+pub returns-in_err-refuse_if-2 : goal.returns-in_err-refuse_if-2
+unfolding book_verdict cut_verdict
+returns-in_err-refuse_if-2 c =
+    goes_on c.in_ok-refuse_if.ensures (goes_on c.in_ok-judge_head.ensures
+    (stops _ c.from_residual-in_err-refuse_if-2.ensures.1 (c.in_err-refuse_if-2.ensures ∙ cut (goal.at.returns-in_err-refuse_if-2 c).After-entry_place)))
+
+pub judge_contents-requires : goal.judge_contents-requires
+judge_contents-requires c = (asked (goal.at.judge_contents-requires c).In_ok-refuse_if-2, count_is (goal.at.judge_contents-requires c).After-entry_place)
+
+pub returns-in_err-judge_contents : goal.returns-in_err-judge_contents
+unfolding book_verdict cut_verdict
+returns-in_err-judge_contents c =
+    goes_on c.in_ok-refuse_if.ensures (goes_on c.in_ok-judge_head.ensures
+    (goes_on (c.in_ok-refuse_if-2.ensures ∙ cut (goal.at.returns-in_err-judge_contents c).After-entry_place)
+    (stops _ c.from_residual-in_err-judge_contents.ensures.1 c.in_err-judge_contents.ensures)))
 
 pub judge_bodies-requires : goal.judge_bodies-requires
-unfolding entries_of
 judge_bodies-requires c =
-    (bodies_asked _ (asked (goal.at.judge_bodies-requires c).Else-book-entry_place) (was_fine c.judge_contents-contents.ensures c.refuses.ensures c.if-refuses.false), refl)
+    let past = goal.at.judge_bodies-requires c in
+    (bodies_asked _ (asked past.In_ok-refuse_if-2) (sym c.in_ok-judge_contents.ensures), count_is past.After-entry_place)
 
 pub returns : goal.returns
-unfolding book_verdict cut_verdict entries_of
+unfolding book_verdict cut_verdict
 returns c =
-    headed (goal.at.returns c).Else-entries-gt-MOST_ENTRIES
-    (faultless 13 (le-ltb _ _ (whole (goal.at.returns c).Else-book-entry_place))
-    (goes_on c.judge_contents-contents.ensures c.refuses.ensures c.if-refuses.false c.judge_bodies.ensures))
+    goes_on c.in_ok-refuse_if.ensures (goes_on c.in_ok-judge_head.ensures
+    (goes_on (c.in_ok-refuse_if-2.ensures ∙ cut (goal.at.returns c).After-entry_place)
+    (goes_on c.in_ok-judge_contents.ensures (c.judge_bodies.ensures ∙ ap (first_of _) (count_is (goal.at.returns c).After-entry_place)))))

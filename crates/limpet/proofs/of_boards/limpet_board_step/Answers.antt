@@ -1,47 +1,36 @@
 -- `limpet_board_step` keeps its promise: where the verdict refuses nothing is written, and else the step is made. Assumes nothing.
-use mathlib.Core.Path.{refl, ◌∙◌, ap}
+use mathlib.Core.Path.{refl, sym}
 use native.Mathlib.Omega.{arith}
-use lib.ListN.{length}
-use Rattle.sizes.proofs.Refusals.{was_fine}
 use Rattle.step.specs.Asked.{StepAsked}
 use Rattle.step.specs.Step.{step_leaves}
-use Rattle.step.proofs.Verdicts.{step_asked, step_flip_high, counters_length, pointers_length, step_number_is, step_number_high}
+use Rattle.step.proofs.Verdicts.{step_asked, step_flip_high, step_number_is, step_number_high}
 use Rattle.limpet.proofs.Answers.{refused_leaves, done_leaves}
-use Rattle.limpet.proofs.of_boards.limpet_board_step.Goals.{Else-refuses}
+use Rattle.limpet.proofs.of_boards.limpet_board_step.Goals.{In-Ok}
 use Rattle.limpet.proofs.of_boards.limpet_board_step.Goals as goal
 
-pub returns-then-refuses : goal.returns-then-refuses
+pub returns-in-Err : goal.returns-in-Err
 unfolding step_leaves
-returns-then-refuses c =
-    refused_leaves _ 0 _ _ _ _ c.judge-verdict.ensures c.refuses.ensures c.if-refuses.true c.pack.ensures refl refl
+returns-in-Err c = refused_leaves _ _ _ _ _ c.in-Err.ensures c.pack_refusal.ensures refl refl
+
+pub returns-in-Ok : goal.returns-in-Ok
+unfolding step_leaves
+returns-in-Ok c =
+    let stepped = c.step-stepped.ensures in
+    done_leaves _ _ _ _ c.in-Ok.ensures (step_number_is _ _ _ c.number_of.ensures stepped.flip_value stepped.closed_value) c.pack_value.ensures stepped.counters_after stepped.pointers_after
 
 -- what was asked of the step
-asked : (c : Else-refuses) →
+asked : (c : In-Ok) →
     let a = c.args in StepAsked a.n a.k a.counters.now a.pointers.now
-asked c = step_asked _ _ _ _ (was_fine c.judge-verdict.ensures c.refuses.ensures c.if-refuses.false)
+asked c = step_asked _ _ _ _ (sym c.in-Ok.ensures)
 
 pub step-stepped-requires : goal.step-stepped-requires
-step-stepped-requires c = asked (goal.at.step-stepped-requires c).Else-refuses
+step-stepped-requires c = asked (goal.at.step-stepped-requires c).In-Ok
 
 pub number_of-requires : goal.number_of-requires
 number_of-requires c =
-    let was = asked (goal.at.number_of-requires c).Else-refuses in omega (arith, c.step-stepped.ensures.flip_value, step_flip_high was, was.lent.sizes.n_high)
+    let was = asked (goal.at.number_of-requires c).In-Ok in omega (arith, c.step-stepped.ensures.flip_value, step_flip_high was, was.lent.sizes.n_high)
 
-pub pack-requires-2 : goal.pack-requires-2
-pack-requires-2 c =
-    let was = asked (goal.at.pack-requires-2 c).Else-refuses in
+pub pack_value-requires : goal.pack_value-requires
+pack_value-requires c =
+    let was = asked (goal.at.pack_value-requires c).In-Ok in
     omega (arith, step_number_is _ _ _ c.number_of.ensures c.step-stepped.ensures.flip_value c.step-stepped.ensures.closed_value, step_number_high was)
-
-pub shape_of-counters : goal.shape_of-counters
-shape_of-counters c =
-    ap length c.step-stepped.ensures.counters_after ∙ counters_length _ _ _ _
-
-pub shape_of-pointers : goal.shape_of-pointers
-shape_of-pointers c =
-    ap length c.step-stepped.ensures.pointers_after ∙ pointers_length _ _ _ _
-
-pub returns : goal.returns
-unfolding step_leaves
-returns c =
-    rw (← step_number_is _ _ _ c.number_of.ensures c.step-stepped.ensures.flip_value c.step-stepped.ensures.closed_value)
-    (done_leaves _ _ _ _ _ c.judge-verdict.ensures c.refuses.ensures c.if-refuses.false c.pack-2.ensures c.step-stepped.ensures.counters_after c.step-stepped.ensures.pointers_after)

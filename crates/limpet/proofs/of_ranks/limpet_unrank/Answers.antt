@@ -1,28 +1,7 @@
 -- `limpet_unrank` keeps its promise: it packs what the floor below answers, and no number comes with an arrangement. Assumes nothing.
-use mathlib.Core.Path.{◌∙◌, ap, sym}
-use native.Mathlib.Omega.{arith}
-use lib.ListN.{length}
-use native.Mathlib.Nat.{le_refl}
-use Rattle.rows.proofs.Rows.{length_row}
-use Rattle.sizes.specs.Outcome.{outcome}
-use Rattle.sizes.proofs.Outcomes.{left_long}
-use Rattle.unrank.specs.Unrank.{unrank_leaves}
-use Rattle.order.proofs.Checks.{write_asked}
-use Rattle.limpet.proofs.Answers.{does_leaves, number_fits}
+use Rattle.limpet.specs.Answer.{no_value}
+use Rattle.limpet.proofs.Answers.{does_leaves}
 use Rattle.limpet.proofs.of_ranks.limpet_unrank.Goals as goal
 
 pub returns : goal.returns
-returns c = does_leaves c.write_lent.ensures c.pack_told.ensures
-
-pub pack_told-requires : goal.pack_told-requires
-unfolding unrank_leaves outcome
-pack_told-requires c =
-    number_fits 0 c.write_lent.ensures.number_is (λ fine. le_refl 0) (omega arith)
-
-pub shape_of-modules : goal.shape_of-modules
-unfolding unrank_leaves outcome
-shape_of-modules c = ap length c.write_lent.ensures.one_is ∙ left_long _ _ _ (λ fine. length_row _ _ ∙ sym (write_asked _ _ _ _ _ fine).modules)
-
-pub shape_of-settings : goal.shape_of-settings
-unfolding unrank_leaves outcome
-shape_of-settings c = ap length c.write_lent.ensures.two_is ∙ left_long _ _ _ (λ fine. length_row _ _ ∙ sym (write_asked _ _ _ _ _ fine).settings)
+returns c = does_leaves no_value c.write_lent.ensures c.pack_verdict.ensures

@@ -1,18 +1,15 @@
 -- `limpet_round_total` keeps its promise: 0 where the sizes are refused, and else T. Assumes nothing.
-use Rattle.sizes.proofs.Refusals.{was_fine, refused_number, done_number}
-use Rattle.sizes.proofs.Weights.{permitted}
+use mathlib.Core.Path.{◌∙◌}
+use Rattle.sizes.proofs.Refusals.{refused_number, done_number}
 use Rattle.limpet.specs.Calls.{total_returns}
 use Rattle.limpet.proofs.of_sizes.limpet_round_total.Goals as goal
 
-pub returns-then-refuses : goal.returns-then-refuses
+pub returns-in-Err : goal.returns-in-Err
 unfolding total_returns
-returns-then-refuses c =
-    record { returned_is = refused_number _ c.judge.ensures c.refuses.ensures c.if-refuses.true }
+returns-in-Err c = record { returned_is = refused_number _ c.in-Err.ensures.verdict }
 
-pub total-requires : goal.total-requires
-total-requires c = permitted _ _ (was_fine c.judge.ensures c.refuses.ensures c.if-refuses.false)
-
-pub returns : goal.returns
+pub returns-in-Ok : goal.returns-in-Ok
 unfolding total_returns
-returns c =
-    record { returned_is = done_number c.judge.ensures c.refuses.ensures c.if-refuses.false c.total.ensures }
+returns-in-Ok c =
+    let made = c.in-Ok.ensures in
+    record { returned_is = done_number made.verdict (c.total.ensures ∙ rw (made.sizes.0, made.sizes.1)) }

@@ -1,16 +1,8 @@
-use mathlib.Core.Path.{◌≡◌, refl, ◌∙◌}
-use native.Mathlib.Omega.{arith}
-use lib.ListN.{length}
-use borrow.Author.Rules.{rules}
-use Rattle.rows.proofs.Rows.{begun, stored}
+-- `rows::copy::load` meets its contract: the bytes that are copied over the first places are the row's. Assumes nothing.
+use Rattle.rows.specs.Row.{front}
+use Rattle.rows.proofs.Rows.{whole}
 use Rattle.rows.proofs.copy.load.Goals as goal
 
-pub loop-i-init : goal.loop-i-init
-loop-i-init c = (search rules, begun _ _)
-
-pub loop-i-preserved : goal.loop-i-preserved
-loop-i-preserved c = (search rules, stored _ _ _ c.loop-i.invariant.1 (omega arith) refl)
-
 pub returns : goal.returns
-returns c =
-    let e : c.loop-i.i ≡ length c.args.slots.now = omega arith in c.loop-i.invariant.1 ∙ rw e
+unfolding front
+returns c = rw (c.copy_from_slice.ensures.after, ← whole c.args.slots.now)

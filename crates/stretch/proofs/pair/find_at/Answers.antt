@@ -1,11 +1,12 @@
 -- `stretch::pair::find_at` meets its contract: the arrangement of the rank is written, and the module is looked for in it. Assumes
 -- nothing.
-use Rattle.stretch.proofs.Seats.{written_asked, seat_written}
+use Rattle.stretch.proofs.Seats.{written_valid, seat_written}
 use Rattle.stretch.proofs.pair.find_at.Goals as goal
 
-pub find-requires : goal.find-requires
-find-requires c =
-    written_asked _ _ _ c.write.ensures.modules_after c.write.ensures.settings_after c.requires
+pub invariant_of-arrangement-clause-valid : goal.invariant_of-arrangement-clause-valid
+invariant_of-arrangement-clause-valid c =
+    let start = c.args.start in
+    written_valid _ _ _ c.write.ensures.modules_after c.write.ensures.settings_after start.sizes.permitted.k_low start.below
 
 pub returns : goal.returns
 returns c =

@@ -1,32 +1,41 @@
--- `text::write::put_head` meets its contract: it writes the word, and the four numbers with their ends behind it. Assumes nothing.
-use native.Mathlib.Omega.{arith}
+-- `text::write::put_head` meets its contract: the word, and the four numbers with their ends behind it. Assumes nothing.
+use Rattle.std.proofs.Common.{arith, rules}
+use Rattle.line.specs.Decimal.{ended}
 use Rattle.text.specs.Text.{walk_word}
-use Rattle.text.proofs.Lines.{head_put, ended_most, head_short}
+use Rattle.text.proofs.Lines.{head_put, longer, ended_most, head_short}
 use Rattle.text.proofs.write.put_head.Goals as goal
 
-pub put_ended-first-requires : goal.put_ended-first-requires
-put_ended-first-requires c = let a = c.args in omega (arith, ended_most a.n 32 (omega arith))
-
-pub put_ended-second-requires : goal.put_ended-second-requires
-put_ended-second-requires c =
-    let a = c.args in
-    omega (arith, ended_most a.n 32 (omega arith), ended_most a.k 32 (omega arith))
-
-pub put_ended-third-requires : goal.put_ended-third-requires
-put_ended-third-requires c =
-    let a = c.args in
-    omega (arith, ended_most a.n 32 (omega arith), ended_most a.k 32 (omega arith), ended_most a.r 32 (omega arith))
-
 pub put_ended-requires : goal.put_ended-requires
-put_ended-requires c =
-    let a = c.args in
-    omega (arith, ended_most a.n 32 (omega arith), ended_most a.k 32 (omega arith), ended_most a.r 32 (omega arith), ended_most a.t 10 (omega arith))
+unfolding walk_word
+put_ended-requires g c =
+    let a = c.args.numbers in
+    (search rules, omega (arith, longer c.args.out.now.items walk_word c.put_text.ensures, ended_most a.n 32 (omega arith)))
+
+pub put_ended-requires-2 : goal.put_ended-requires-2
+unfolding walk_word
+put_ended-requires-2 g c =
+    let a = c.args.numbers in
+    (search rules, omega (arith, longer c.args.out.now.items walk_word c.put_text.ensures, longer c.put_text.new.out.items (ended a.n 32) c.put_ended.ensures, ended_most a.n 32 (omega arith), ended_most a.k 32 (omega arith)))
+
+pub put_ended-requires-3 : goal.put_ended-requires-3
+unfolding walk_word
+put_ended-requires-3 g c =
+    let a = c.args.numbers in
+    (search rules, omega (arith, longer c.args.out.now.items walk_word c.put_text.ensures, longer c.put_text.new.out.items (ended a.n 32) c.put_ended.ensures, longer c.put_ended.new.out.items (ended a.k 32) c.put_ended-2.ensures, ended_most a.n 32 (omega arith), ended_most a.k 32 (omega arith), ended_most a.rank 32 (omega arith)))
+
+pub put_ended-requires-4 : goal.put_ended-requires-4
+unfolding walk_word
+put_ended-requires-4 g c =
+    let a = c.args.numbers in
+    (search rules, omega (arith, longer c.args.out.now.items walk_word c.put_text.ensures, longer c.put_text.new.out.items (ended a.n 32) c.put_ended.ensures, longer c.put_ended.new.out.items (ended a.k 32) c.put_ended-2.ensures, longer c.put_ended-2.new.out.items (ended a.rank 32) c.put_ended-3.ensures, ended_most a.n 32 (omega arith), ended_most a.k 32 (omega arith), ended_most a.rank 32 (omega arith), ended_most a.count 10 (omega arith)))
 
 pub returns : goal.returns
 unfolding walk_word
-returns c =
-    let put = head_put c.requires (omega arith) (omega arith) (omega arith) (omega arith) c.put_text-word.ensures c.put_ended-first.ensures c.put_ended-second.ensures c.put_ended-third.ensures c.put_ended.ensures in
+returns g c =
+    let a = c.args.numbers in
+    let out = c.args.out.now.items in
+    let put = head_put out a.n a.k a.rank a.count c.put_text.ensures c.put_ended.ensures c.put_ended-2.ensures c.put_ended-3.ensures c.put_ended-4.ensures in
     record {
       put = put;
-      upper_bound = omega (arith, put.ends, head_short c.args.n c.args.k c.args.r c.args.t (omega arith) (omega arith) (omega arith) (omega arith));
+      upper_bound = omega (arith, longer out _ put, head_short a.n a.k a.rank a.count (omega arith) (omega arith) (omega arith) (omega arith));
     }

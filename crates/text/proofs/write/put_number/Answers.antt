@@ -1,25 +1,22 @@
-use Prim.Native.Nat.{◌/◌}
-use mathlib.Core.Path.{refl}
-use native.Mathlib.Omega.{arith}
-use Rattle.line.proofs.Decimals.{long_some, long_more}
-use Rattle.text.proofs.Lines.{spelling_first, spelling_on, spelled}
+-- `text::write::put_number` meets its contract: the library's digits are those of the definition. Assumes nothing.
+use Rattle.std.proofs.Common.{arith, rules, ◌∙◌, ◌++◌, sym, ap, length}
+use Rattle.line.proofs.Decimals.{decimal_one}
+use Rattle.text.proofs.Lines.{same_decimal}
 use Rattle.text.proofs.write.put_number.Goals as goal
 
-pub overflow_sub-i : goal.overflow_sub-i
-overflow_sub-i c =
-    omega (arith, long_some c.args.number (omega arith))
+pub returns-then-number-lt10 : goal.returns-then-number-lt10
+returns-then-number-lt10 g c =
+    c.push.ensures.items ∙ ap (λ text. c.args.out.now.items ++ text) (sym (decimal_one c.args.number c.if-number-lt10.true))
 
-pub loop-rest-init : goal.loop-rest-init
-loop-rest-init c =
-    let some = long_some c.args.number (omega arith) in spelling_first (omega arith) (omega arith) (omega arith)
-
-pub overflow_sub-i-in-loop-rest : goal.overflow_sub-i-in-loop-rest
-overflow_sub-i-in-loop-rest c =
-    let rest = c.loop-rest.rest in
-    omega (arith, long_more rest (omega arith) (omega arith), long_some (rest / 10) (omega arith))
-
-pub loop-rest-preserved : goal.loop-rest-preserved
-loop-rest-preserved c = spelling_on c.loop-rest.invariant (omega arith) refl
+pub push-requires : goal.push-requires
+push-requires g c = (search rules, omega (arith, ap length (decimal_one c.args.number c.if-number-lt10.true)))
 
 pub returns : goal.returns
-returns c = spelled c.loop-rest.invariant (omega arith) refl (omega arith)
+returns g c =
+    let digits = c.as_bytes.ensures.value ∙ c.format.ensures.text ∙ same_decimal c.args.number (omega arith) in
+    c.put_text.ensures ∙ ap (λ text. c.args.out.now.items ++ text) digits
+
+pub put_text-requires : goal.put_text-requires
+put_text-requires g c =
+    let digits = c.as_bytes.ensures.value ∙ c.format.ensures.text ∙ same_decimal c.args.number (omega arith) in
+    (search rules, omega (arith, ap length digits))

@@ -1,21 +1,23 @@
--- `text::write::put_refused_at` meets its contract: it writes the word, and the two numbers with their ends behind it. Assumes
--- nothing.
-use native.Mathlib.Omega.{arith}
+-- `text::write::put_refused_at` meets its contract: the word, and the two numbers with their ends behind it. Assumes nothing.
+use Rattle.std.proofs.Common.{arith, rules, ap, ◌∙◌, ◌++◌}
+use Rattle.line.specs.Decimal.{ended}
 use Rattle.text.specs.Text.{refused_word}
-use Rattle.line.proofs.Decimals.{long_most}
-use Rattle.text.proofs.Lines.{refused_at_put, ended_long, ended_most}
+use Rattle.text.proofs.Lines.{refused_at_put, longer, ended_most}
 use Rattle.text.proofs.write.put_refused_at.Goals as goal
 
-pub put_ended-first-requires : goal.put_ended-first-requires
-put_ended-first-requires c = let a = c.args in omega (arith, ended_most a.number 32 (omega arith))
-
 pub put_ended-requires : goal.put_ended-requires
-put_ended-requires c =
-    let a = c.args in
-    simp ended_long (omega (arith, ended_most a.number 32 (omega arith), long_most a.number (omega arith), long_most a.place (omega arith)))
+unfolding refused_word
+put_ended-requires g c =
+    (search rules, omega (arith, longer c.args.out.now.items refused_word c.put_text.ensures, ended_most c.from.result 32 (omega arith)))
+
+pub put_ended-requires-2 : goal.put_ended-requires-2
+unfolding refused_word
+put_ended-requires-2 g c =
+    (search rules, omega (arith, longer c.args.out.now.items refused_word c.put_text.ensures, longer c.put_text.new.out.items (ended c.from.result 32) c.put_ended.ensures, ended_most c.from.result 32 (omega arith), ended_most c.from-2.result 10 (omega arith)))
 
 pub returns : goal.returns
 unfolding refused_word
-returns c =
-    let put = refused_at_put c.requires (omega arith) (omega arith) c.put_text-word.ensures c.put_ended-first.ensures c.put_ended.ensures in
-    record { put = put.0; upper_bound = put.1 }
+returns g c = record {
+  put = refused_at_put c.args.out.now.items c.args.number c.args.place c.put_text.ensures (c.put_ended.ensures ∙ ap (λ x. c.put_text.new.out.items ++ ended x 32) c.from.ensures) (c.put_ended-2.ensures ∙ ap (λ x. c.put_ended.new.out.items ++ ended x 10) c.from-2.ensures);
+  upper_bound = omega (arith, longer c.args.out.now.items refused_word c.put_text.ensures, longer c.put_text.new.out.items (ended c.from.result 32) c.put_ended.ensures, longer c.put_ended.new.out.items (ended c.from-2.result 10) c.put_ended-2.ensures, ended_most c.from.result 32 (omega arith), ended_most c.from-2.result 10 (omega arith));
+}

@@ -1,31 +1,36 @@
--- `text::write::put_slots` meets its contract: it writes the rank, the flip, the slots and the newline. Assumes nothing.
-use native.Mathlib.Omega.{arith}
-use lib.ListN.{length}
+-- `text::write::put_slots` meets its contract: the rank, the flip, the slots and the newline. Assumes nothing.
+use Rattle.std.proofs.Common.{arith, rules, length}
 use Rattle.rows.specs.Row.{at}
+use Rattle.line.specs.Decimal.{decimal, ended}
 use Rattle.line.proofs.Decimals.{long_most}
-use Rattle.text.proofs.Lines.{bytes_fit, ended_most, slots_short, slot_line_short, slots_put}
+use Rattle.text.specs.Text.{slots}
+use Rattle.text.proofs.Lines.{bytes_fit, longer, ended_most, slots_short, slot_line_short, slots_put}
 use Rattle.text.proofs.write.put_slots.Goals as goal
 
-pub put_ended-space-requires : goal.put_ended-space-requires
-put_ended-space-requires c = omega (arith, ended_most c.args.rank 32 (omega arith))
+pub put_ended-requires : goal.put_ended-requires
+put_ended-requires g c = (search rules, omega (arith, ended_most c.args.rank 32 (omega arith)))
 
-pub put_number-first-requires : goal.put_number-first-requires
-put_number-first-requires c =
-    omega (arith, ended_most c.args.rank 32 (omega arith), long_most c.args.flip (omega arith))
+pub put_number-requires : goal.put_number-requires
+put_number-requires g c =
+    (search rules, omega (arith, longer c.args.out.now.items (ended c.args.rank 32) c.put_ended.ensures, ended_most c.args.rank 32 (omega arith), long_most c.args.flip (omega arith)))
 
-pub put_each-end-requires : goal.put_each-end-requires
-put_each-end-requires c =
-    (omega (arith, ended_most c.args.rank 32 (omega arith), long_most c.args.flip (omega arith)), c.requires.2)
+pub put_each-requires : goal.put_each-requires
+put_each-requires g c =
+    (search rules, (omega (arith, longer c.args.out.now.items (ended c.args.rank 32) c.put_ended.ensures, longer c.put_ended.new.out.items (decimal c.args.flip) c.put_number.ensures, ended_most c.args.rank 32 (omega arith), long_most c.args.flip (omega arith)), c.requires.2))
 
-pub put_byte-requires : goal.put_byte-requires
-put_byte-requires c =
-    omega (arith, ended_most c.args.rank 32 (omega arith), long_most c.args.flip (omega arith), slots_short (length c.args.modules.now) (at c.args.modules.now) (at c.args.settings.now) (λ i h. bytes_fit c.args.modules.now c.type_inv.modules i) (λ i h. bytes_fit c.args.settings.now c.type_inv.settings i))
+pub push-requires : goal.push-requires
+push-requires g c =
+    let ms = c.args.modules.now in
+    let ss = c.args.settings.now in
+    let few = slots_short (length ms) (at ms) (at ss) (λ i h. bytes_fit ms c.type_inv.modules i) (λ i h. bytes_fit ss c.type_inv.settings i) in
+    (search rules, omega (arith, longer c.args.out.now.items (ended c.args.rank 32) c.put_ended.ensures, longer c.put_ended.new.out.items (decimal c.args.flip) c.put_number.ensures, longer c.put_number.new.out.items (slots (length ms) (at ms) (at ss)) c.put_each.ensures, ended_most c.args.rank 32 (omega arith), long_most c.args.flip (omega arith), few))
 
 pub returns : goal.returns
-returns c =
-    let line = slot_line_short c.args.rank c.args.flip _ _ _ (omega arith) (omega arith) c.requires.1 (λ i h. bytes_fit c.args.modules.now c.type_inv.modules i) (λ i h. bytes_fit c.args.settings.now c.type_inv.settings i) in
-    let put = slots_put _ _ _ _ _ (omega (arith, line, c.requires.0)) c.put_ended-space.ensures c.put_number-first.ensures c.put_each-end.ensures c.put_byte.ensures in
+returns g c =
+    let ms = c.args.modules.now in
+    let ss = c.args.settings.now in
+    let put = slots_put c.args.out.now.items c.args.rank c.args.flip (length ms) (at ms) (at ss) c.put_ended.ensures c.put_number.ensures c.put_each.ensures c.push.ensures.items in
     record {
       put = put;
-      upper_bound = omega (arith, line, put.ends);
+      upper_bound = omega (arith, longer c.args.out.now.items _ put, slot_line_short c.args.rank c.args.flip (length ms) (at ms) (at ss) (omega arith) (omega arith) c.requires.1 (λ i h. bytes_fit ms c.type_inv.modules i) (λ i h. bytes_fit ss c.type_inv.settings i));
     }

@@ -1,72 +1,53 @@
--- `writer::check::judge` meets its contract: it returns at the first check that refuses. Assumes nothing.
-use Prim.Native.Nat.{ℕ}
-use mathlib.Core.Path.{◌≡◌}
-use mathlib.Core.List.{List}
-use Rattle.rows.proofs.Cases.{below_range, above_range, in_range}
-use Rattle.sizes.specs.declared.Verdict.{Verdict}
-use Rattle.sizes.specs.Refusal.{first}
-use Rattle.sizes.proofs.Refusals.{stops, goes_on, was_fine, faulty, faultless, last_faulty, last_faultless}
+-- `writer::check::judge` meets its contract: it leaves at the first check that refuses. Assumes nothing.
+use Prim.Native.Nat.{◌≤◌}
+use mathlib.Core.Path.{◌≡◌, sym, ◌∙◌, ap}
+use lib.ListN.{length}
+use Rattle.sizes.specs.declared.Fault.TheVariants.{Format}
+use Rattle.sizes.specs.Refusal.{refused_if}
+use Rattle.sizes.proofs.Refusals.{stops, goes_on}
 use Rattle.book.specs.Format.{most_entries}
-use Rattle.writer.specs.Write.{Lists, lists, stretches_in, lists_verdict, few_verdict, room_verdict, write_verdict}
-use Rattle.writer.proofs.Checks.{one_length}
-use Rattle.writer.proofs.Pieces.{room_short, room_enough}
-use Rattle.writer.proofs.check.judge.Goals.{Else-refuses, Else-ns-gt-MOST_ENTRIES, Else-refuses-2}
+use Rattle.writer.specs.Write.{lent, few_verdict, write_verdict}
+use Rattle.writer.proofs.Checks.{few_stretches, one_length}
+use Rattle.writer.proofs.Pieces.{room_told}
+use Rattle.writer.proofs.check.judge.Goals.{After-outside, In_ok-refuse_if}
 use Rattle.writer.proofs.check.judge.Goals as goal
 
-pub returns-then-refuses : goal.returns-then-refuses
+pub returns-in_err-judge_lists : goal.returns-in_err-judge_lists
 unfolding write_verdict
-returns-then-refuses c = stops _ c.judge_lists-lent.ensures c.refuses.ensures c.if-refuses.true
+returns-in_err-judge_lists c = stops _ c.from_residual.ensures.1 c.in_err-judge_lists.ensures
 
--- what was lent
-abbrev lent : (c : Else-refuses) → Lists
-lent c =
-    let a = c.args in lists a.ns.now a.ks.now a.ranks.now a.counts.now
-
--- past the lists' lengths
-lists_passed : {w later : Verdict} (c : Else-refuses) → w ≡ later → w ≡ first (lists_verdict (lent c)) later
-lists_passed c rest = goes_on c.judge_lists-lent.ensures c.refuses.ensures c.if-refuses.false rest
-
-pub returns-then-ns-lt1 : goal.returns-then-ns-lt1
-unfolding write_verdict few_verdict
-returns-then-ns-lt1 c = lists_passed (goal.at.returns-then-ns-lt1 c).Else-refuses (faulty 14 _ (below_range 1 most_entries _ c.if-ns-lt1.true))
-
-pub returns-then-ns-gt-MOST_ENTRIES : goal.returns-then-ns-gt-MOST_ENTRIES
-unfolding write_verdict few_verdict
-returns-then-ns-gt-MOST_ENTRIES c = lists_passed (goal.at.returns-then-ns-gt-MOST_ENTRIES c).Else-refuses (faulty 14 _ (above_range 1 most_entries _ c.if-ns-lt1.false c.if-ns-gt-MOST_ENTRIES.true))
-
--- and past their number
-few_passed : {w later : Verdict} (c : Else-ns-gt-MOST_ENTRIES) →
-    let a = c.args in w ≡ later → w ≡ first (few_verdict (stretches_in (lists a.ns.now a.ks.now a.ranks.now a.counts.now))) later
+-- what is told of their number
+counted : (c : After-outside) → refused_if Format c.outside.result ≡ few_verdict (length c.args.lists.now.ns.now)
 unfolding few_verdict
-few_passed c rest = faultless 14 (in_range 1 most_entries _ c.if-ns-lt1.false c.if-ns-gt-MOST_ENTRIES.false) rest
+counted c = ap (refused_if Format) c.outside.ensures
 
-pub judge_stretches-stretches-requires : goal.judge_stretches-stretches-requires
-judge_stretches-stretches-requires c =
-    one_length (lent (goal.at.judge_stretches-stretches-requires c).Else-refuses) (was_fine c.judge_lists-lent.ensures c.refuses.ensures c.if-refuses.false) c.if-ns-gt-MOST_ENTRIES.false
-
-pub returns-then-refuses-2 : goal.returns-then-refuses-2
+pub returns-in_err-refuse_if : goal.returns-in_err-refuse_if
 unfolding write_verdict
-returns-then-refuses-2 c =
-    lists_passed (goal.at.returns-then-refuses-2 c).Else-refuses
-    (few_passed (goal.at.returns-then-refuses-2 c).Else-ns-gt-MOST_ENTRIES
-    (stops _ c.judge_stretches-stretches.ensures c.refuses-2.ensures c.if-refuses-2.true))
+returns-in_err-refuse_if c =
+    goes_on c.in_ok-judge_lists.ensures
+    (stops _ c.from_residual-in_err-refuse_if.ensures.1 (c.in_err-refuse_if.ensures ∙ counted (goal.at.returns-in_err-refuse_if c).After-outside))
 
--- the buffer
-buffer : (c : Else-refuses-2) → List ℕ
-buffer c = c.args.buffer.now
+-- and what is known of the lists behind that
+few : (c : In_ok-refuse_if) → length c.args.lists.now.ns.now ≤ most_entries
+unfolding few_verdict
+few c = (few_stretches _ (sym (c.in_ok-refuse_if.ensures ∙ ap (refused_if Format) c.outside.ensures))).1
 
-pub returns-then-buffer-book_length : goal.returns-then-buffer-book_length
-unfolding write_verdict room_verdict buffer
-returns-then-buffer-book_length c =
-    lists_passed (goal.at.returns-then-buffer-book_length c).Else-refuses
-    (few_passed (goal.at.returns-then-buffer-book_length c).Else-ns-gt-MOST_ENTRIES
-    (goes_on c.judge_stretches-stretches.ensures c.refuses-2.ensures c.if-refuses-2.false
-    (last_faulty 4 (room_short (lent (goal.at.returns-then-buffer-book_length c).Else-refuses) (buffer (goal.at.returns-then-buffer-book_length c).Else-refuses-2) c.book_length.ensures c.if-buffer-book_length.true))))
+pub judge_stretches-requires : goal.judge_stretches-requires
+judge_stretches-requires c = one_length (lent c.args.lists.now) (sym c.in_ok-judge_lists.ensures) (few (goal.at.judge_stretches-requires c).In_ok-refuse_if)
+
+pub returns-in_err-judge_stretches : goal.returns-in_err-judge_stretches
+unfolding write_verdict
+returns-in_err-judge_stretches c =
+    goes_on c.in_ok-judge_lists.ensures
+    (goes_on (c.in_ok-refuse_if.ensures ∙ counted (goal.at.returns-in_err-judge_stretches c).After-outside)
+    (stops _ c.from_residual-in_err-judge_stretches.ensures.1 c.in_err-judge_stretches.ensures))
 
 pub returns : goal.returns
-unfolding write_verdict room_verdict buffer
+unfolding write_verdict
 returns c =
-    lists_passed (goal.at.returns c).Else-refuses
-    (few_passed (goal.at.returns c).Else-ns-gt-MOST_ENTRIES
-    (goes_on c.judge_stretches-stretches.ensures c.refuses-2.ensures c.if-refuses-2.false
-    (last_faultless 4 (room_enough (lent (goal.at.returns c).Else-refuses) (buffer (goal.at.returns c).Else-refuses-2) c.book_length.ensures c.if-buffer-book_length.false))))
+    goes_on c.in_ok-judge_lists.ensures
+    (goes_on (c.in_ok-refuse_if.ensures ∙ counted (goal.at.returns c).After-outside)
+    (goes_on c.in_ok-judge_stretches.ensures (c.refuse_if-2.ensures ∙ room_told (lent c.args.lists.now) _ c.book_length.ensures)))
+
+pub book_length-requires : goal.book_length-requires
+book_length-requires c = few (goal.at.book_length-requires c).In_ok-refuse_if

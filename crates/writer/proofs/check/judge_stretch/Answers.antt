@@ -1,17 +1,15 @@
--- `writer::check::judge_stretch` meets its contract: it returns at the first check that refuses. Assumes nothing.
-use Rattle.sizes.proofs.Refusals.{stops, goes_on, was_fine}
-use Rattle.order.proofs.Checks.{start_asked}
+-- `writer::check::judge_stretch` meets its contract: it leaves at the first check that refuses. Assumes nothing.
+use mathlib.Core.Path.{◌∙◌}
+use Rattle.sizes.proofs.Refusals.{stops, goes_on}
 use Rattle.writer.specs.Write.{stretch_verdict}
 use Rattle.writer.proofs.check.judge_stretch.Goals as goal
 
-pub returns-then-refuses : goal.returns-then-refuses
+pub returns-in_err-start : goal.returns-in_err-start
 unfolding stretch_verdict
-returns-then-refuses c = stops _ c.judge_start-start.ensures c.refuses.ensures c.if-refuses.true
-
-pub judge_count-requires : goal.judge_count-requires
-judge_count-requires c = (start_asked _ _ _ (was_fine c.judge_start-start.ensures c.refuses.ensures c.if-refuses.false)).0
+returns-in_err-start c = stops _ c.from_residual.ensures.1 c.in_err-start.ensures.verdict
 
 pub returns : goal.returns
 unfolding stretch_verdict
 returns c =
-    goes_on c.judge_start-start.ensures c.refuses.ensures c.if-refuses.false c.judge_count.ensures
+    let made = c.in_ok-start.ensures in
+    goes_on made.verdict (c.judge_count.ensures ∙ rw (made.start.0, made.start.1))

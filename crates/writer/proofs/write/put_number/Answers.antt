@@ -3,23 +3,19 @@ use native.Mathlib.Omega.{arith}
 use Rattle.rows.proofs.Puts.{put_as}
 use Rattle.book.specs.Format.{bytes_of}
 use Rattle.writer.proofs.Pieces.{numbered_first, numbered_long, numbered_on}
-use borrow.Author.Rules.{rules}
 use Rattle.writer.proofs.write.put_number.Goals as goal
 
 pub loop-i-init : goal.loop-i-init
-loop-i-init c = (search rules, numbered_first _ _ _)
+loop-i-init c = (numbered_first _ _ _)
 
 pub bounds-out-from : goal.bounds-out-from
-bounds-out-from c = omega (arith, c.requires, c.loop-i-test.true, numbered_long (omega (arith, c.requires, c.loop-i-test.true)) c.loop-i.invariant.1)
+bounds-out-from c = omega (arith, c.requires, c.loop-i-test.true, numbered_long (omega (arith, c.requires, c.loop-i-test.true)) c.loop-i.invariant)
 
 pub loop-i-preserved : goal.loop-i-preserved
 loop-i-preserved c =
-    (search rules, numbered_on c.loop-i.invariant.1 (omega (arith, c.requires, c.loop-i-test.true)) refl)
-
-pub shape_of-out : goal.shape_of-out
-shape_of-out c = numbered_long (omega (arith, c.requires, c.loop-i.invariant.0)) c.loop-i.invariant.1
+    (numbered_on c.loop-i.invariant (omega (arith, c.requires, c.loop-i-test.true)) refl)
 
 pub returns : goal.returns
 returns c =
-    let all : c.loop-i.i ≡ c.args.width = omega (arith, c.loop-i.invariant.0, c.loop-i-test.false) in
-    put_as (ap (λ w. bytes_of w c.args.number) all) (omega (arith, all)) c.loop-i.invariant.1.put
+    let all : c.loop-i.i ≡ c.args.width = omega arith in
+    put_as (ap (λ w. bytes_of w c.args.number) all) (omega (arith, all)) c.loop-i.invariant.put

@@ -5,17 +5,16 @@ use Rattle.rows.specs.Row.{at, row}
 use Rattle.rows.proofs.Puts.{put_as}
 use Rattle.book.specs.Format.{format_one}
 use Rattle.writer.proofs.Pieces.{row_first, row_long, row_on}
-use borrow.Author.Rules.{rules}
 use Rattle.writer.proofs.write.put_slots.Goals as goal
 
 pub returns : goal.returns
 returns c =
     let a = c.args in
-    let all : c.loop-i.i ≡ length a.modules.now = omega (arith, c.loop-i.invariant.0, c.loop-i-test.false) in
-    put_as (ap (row (format_one.byte (at a.modules.now) (at a.settings.now))) all) (omega (arith, all)) c.loop-i.invariant.1
+    let all : c.loop-i.i ≡ length a.modules.now = omega arith in
+    put_as (ap (row (format_one.byte (at a.modules.now) (at a.settings.now))) all) (omega (arith, all)) c.loop-i.invariant
 
 pub loop-i-init : goal.loop-i-init
-loop-i-init c = (search rules, row_first _)
+loop-i-init c = (row_first _)
 
 pub bounds-settings-i : goal.bounds-settings-i
 bounds-settings-i c = omega (arith, c.loop-i-test.true, c.requires.settings_long)
@@ -31,13 +30,10 @@ overflow_add-out c =
 pub bounds-out-from : goal.bounds-out-from
 bounds-out-from c =
     let pre = c.requires in
-    let inside = c.loop-i-test.true in omega (arith, pre.room, inside, row_long _ c.loop-i.i (omega (arith, pre.room, inside)) c.loop-i.invariant.1)
+    let inside = c.loop-i-test.true in omega (arith, pre.room, inside, row_long _ c.loop-i.i (omega (arith, pre.room, inside)) c.loop-i.invariant)
 
 pub loop-i-preserved : goal.loop-i-preserved
 unfolding format_one
 loop-i-preserved c =
     let inside = c.loop-i-test.true in
-    (search rules, row_on _ c.loop-i.i c.loop-i.invariant.1 (omega (arith, c.requires.room, inside)) refl)
-
-pub shape_of-out : goal.shape_of-out
-shape_of-out c = row_long _ c.loop-i.i (omega (arith, c.requires.room, c.loop-i.invariant.0)) c.loop-i.invariant.1
+    (row_on _ c.loop-i.i c.loop-i.invariant (omega (arith, c.requires.room, inside)) refl)

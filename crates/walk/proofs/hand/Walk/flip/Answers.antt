@@ -1,20 +1,16 @@
 -- `walk::hand::Walk::flip` meets its contract: the walk comes back as it was where it is refused. Assumes nothing.
-use mathlib.Core.Path.{refl}
-use Rattle.sizes.proofs.Refusals.{was_fine}
-use Rattle.walk.specs.Hand.{flipped_walk, flips}
-use Rattle.walk.proofs.Hands.{flip_asked, made_refused, made_done}
+use mathlib.Core.Path.{refl, sym}
+use Rattle.walk.specs.Hand.{flips}
+use Rattle.walk.proofs.Hands.{flip_asked, handed_done, handed_kept}
 use Rattle.walk.proofs.hand.Walk.flip.Goals as goal
 
-pub returns-then-refuses : goal.returns-then-refuses
+pub returns-in-Ok : goal.returns-in-Ok
 unfolding flips
-returns-then-refuses c =
-    let a = c.args in
-    made_refused c.judge_flip-verdict.ensures c.refuses.ensures (flipped_walk a.j a.self) c.if-refuses.true refl
+returns-in-Ok c = handed_done _ c.in-Ok.ensures c.flipped.ensures
 
-pub flip_places-requires : goal.flip_places-requires
-flip_places-requires c = flip_asked _ _ (was_fine c.judge_flip-verdict.ensures c.refuses.ensures c.if-refuses.false)
-
-pub returns : goal.returns
+pub returns-in-Err : goal.returns-in-Err
 unfolding flips
-returns c =
-    made_done c.judge_flip-verdict.ensures c.refuses.ensures c.args.self c.if-refuses.false c.flip_places.ensures
+returns-in-Err c = handed_kept _ c.in-Err.ensures refl
+
+pub flipped-requires : goal.flipped-requires
+flipped-requires c = flip_asked _ _ (sym c.in-Ok.ensures)

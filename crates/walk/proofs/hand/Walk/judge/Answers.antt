@@ -1,18 +1,7 @@
--- `walk::hand::Walk::judge` meets its contract: it returns at the first check that refuses. Assumes nothing.
-use Rattle.sizes.proofs.Refusals.{stops, goes_on, was_fine}
-use Rattle.sizes.proofs.Weights.{permitted}
-use Rattle.walk.specs.Hand.{walk_verdict}
+-- `walk::hand::Walk::judge` meets its contract: it is the check of the arrangement in its places. Assumes nothing.
+use mathlib.Core.Path.{◌∙◌}
+use Rattle.sizes.proofs.Refusals.{left_with}
 use Rattle.walk.proofs.hand.Walk.judge.Goals as goal
 
-pub returns-then-refuses : goal.returns-then-refuses
-unfolding walk_verdict
-returns-then-refuses c = stops _ c.judge-size.ensures c.refuses.ensures c.if-refuses.true
-
-pub judge_places-requires : goal.judge_places-requires
-judge_places-requires c =
-    let sizes = permitted _ _ (was_fine c.judge-size.ensures c.refuses.ensures c.if-refuses.false) in (sizes.n_high, sizes.k_low)
-
-pub returns : goal.returns
-unfolding walk_verdict
-returns c =
-    goes_on c.judge-size.ensures c.refuses.ensures c.if-refuses.false c.judge_places.ensures
+pub returns-in_err-arrangement : goal.returns-in_err-arrangement
+returns-in_err-arrangement c = left_with c.from_residual.ensures.1 ∙ c.in_err-arrangement.ensures.verdict

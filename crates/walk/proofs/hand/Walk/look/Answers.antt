@@ -1,18 +1,17 @@
--- `walk::hand::Walk::look` meets its contract: 0 where the walk is refused, and else what was asked for. Assumes nothing.
-use Rattle.sizes.proofs.Refusals.{was_fine}
-use Rattle.walk.specs.Hand.{walk_look, tells_flip}
-use Rattle.walk.proofs.Hands.{walk_asked, told_refused, told_done}
+-- `walk::hand::Walk::look` meets its contract: it looks at a walk that isn't refused. Assumes nothing.
+use Rattle.std.proofs.Common.{Ok}
+use mathlib.Core.Path.{ap, ◌∙◌}
+use Rattle.sizes.proofs.Refusals.{stops_answer, answers}
+use Rattle.walk.specs.Hand.{tells_flip}
+use Rattle.walk.proofs.Hands.{looked_in}
 use Rattle.walk.proofs.hand.Walk.look.Goals as goal
 
-pub returns-then-refuses : goal.returns-then-refuses
+pub returns-in_err-arrangement : goal.returns-in_err-arrangement
 unfolding tells_flip
-returns-then-refuses c =
-    told_refused c.judge-verdict.ensures c.refuses.ensures (walk_look c.args.self) c.if-refuses.true
-
-pub look_places-requires : goal.look_places-requires
-look_places-requires c = walk_asked _ (was_fine c.judge-verdict.ensures c.refuses.ensures c.if-refuses.false)
+returns-in_err-arrangement c = stops_answer _ c.from_residual.ensures.1 c.in_err-arrangement.ensures.verdict
 
 pub returns : goal.returns
-unfolding tells_flip walk_look
+unfolding tells_flip
 returns c =
-    told_done c.judge-verdict.ensures c.refuses.ensures c.if-refuses.false c.look_places.ensures.0
+    let made = c.in_ok-arrangement.ensures in
+    answers _ made.verdict (ap Ok (c.look.ensures ∙ looked_in c.args.self c.in_ok-arrangement.arrangement made.sizes made.rows))

@@ -1,18 +1,18 @@
--- `walk::hand::Walk::rank` meets its contract: 0 where the walk is refused, and else what was asked for. Assumes nothing.
-use Rattle.sizes.proofs.Refusals.{was_fine}
-use Rattle.walk.specs.Hand.{walk_rank, tells_rank}
-use Rattle.walk.proofs.Hands.{walk_asked, told_refused, told_done}
+-- `walk::hand::Walk::rank` meets its contract: the rank of a walk that isn't refused depends on the first n places alone. Assumes
+-- nothing.
+use Rattle.std.proofs.Common.{Ok}
+use mathlib.Core.Path.{ap, ◌∙◌}
+use Rattle.sizes.proofs.Refusals.{stops_answer, answers}
+use Rattle.walk.specs.Hand.{tells_rank}
+use Rattle.walk.proofs.Hands.{ranked_in}
 use Rattle.walk.proofs.hand.Walk.rank.Goals as goal
 
-pub returns-then-refuses : goal.returns-then-refuses
+pub returns-in_err-arrangement : goal.returns-in_err-arrangement
 unfolding tells_rank
-returns-then-refuses c =
-    told_refused c.judge-verdict.ensures c.refuses.ensures (walk_rank c.args.self) c.if-refuses.true
-
-pub rank_places-requires : goal.rank_places-requires
-rank_places-requires c = walk_asked _ (was_fine c.judge-verdict.ensures c.refuses.ensures c.if-refuses.false)
+returns-in_err-arrangement c = stops_answer _ c.from_residual.ensures.1 c.in_err-arrangement.ensures.verdict
 
 pub returns : goal.returns
-unfolding tells_rank walk_rank
+unfolding tells_rank
 returns c =
-    told_done c.judge-verdict.ensures c.refuses.ensures c.if-refuses.false c.rank_places.ensures
+    let made = c.in_ok-arrangement.ensures in
+    answers _ made.verdict (ap Ok (c.rank.ensures ∙ ranked_in c.args.self c.in_ok-arrangement.arrangement made.sizes made.rows))

@@ -1,5 +1,0 @@
--- `book_read::main` is safe: what is printed stands in the buffer, which has room for it. Assumes nothing.
-use Rattle.book_read.proofs.main.Goals as goal
-
-pub print-requires : goal.print-requires
-print-requires c = c.answer-printed.ensures.inside

@@ -1,2 +1,0 @@
--- `Printings` has what is printed by a verdict that is known.
-pub mod Printings

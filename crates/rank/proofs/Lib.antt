@@ -1,0 +1,2 @@
+-- `Starts` has that a start is settled by n, k and the rank.
+pub mod Starts
