@@ -1,20 +1,19 @@
 -- Lines taken into four lists, one by one: what a line says is written behind what the lines before it said, and nothing of that
 -- changes. Assumes nothing.
-use Prim.Native.Nat.{ℕ, suc, ◌+◌, ◌-◌, ◌*◌, ◌≤◌, ◌<◌}
+use Prim.Native.Nat.{ℕ, suc, ◌+◌, ◌*◌, ◌≤◌, ◌<◌}
 use mathlib.Core.Path.{◌≡◌, refl, sym, ◌∙◌, ap}
-use mathlib.Core.List.{List, ◌++◌}
+use mathlib.Core.List.{List, [], ◌++◌}
 use native.Mathlib.Nat.{le_refl}
 use native.Mathlib.Numerals.{add-one}
 use native.Mathlib.Omega.{arith}
-use lib.ListN.{length, take, drop, set, length-append, length-set, length-drop, drop_of_length-le}
-use lib.Seq.{take-append-le, take-take, length-take-le, take-paste, take-length, drop_at, drop-drop, get_or-set_same, get_or-set_other}
+use lib.ListN.{length, take, drop, set, length-append, length-set}
+use lib.Seq.{take-append-le, take-take, length-take-le, take-paste, take-length, drop_at, get_or-set_same, get_or-set_other}
 use Rattle.rows.specs.Put.{Put}
 use Rattle.rows.proofs.Puts.{put_length}
 use Rattle.rows.proofs.Cases.{by_last}
 use Rattle.line.specs.Decimal.{most}
 use Rattle.line.specs.Line.{Says, Reads, line_long}
 use Rattle.std.proofs.Common.{None}
-use Rattle.line.proofs.Ends.{line_inside}
 use Rattle.book.specs.Format.{bytes_of, number_in}
 use Rattle.book.proofs.Bytes.{bytes_long, number_back}
 use Rattle.writer.specs.Write.{word_at}
@@ -47,11 +46,10 @@ word_here {xs} {ys} i x small room p =
 
 -- ---- all lines, one by one
 
--- the first i lines are taken, and end before place `from`
-pub record Going (xs ns ks ranks counts : List ℕ) (from i : ℕ) : Type 0 where
+-- the first i lines are taken, and the rest is what follows them
+pub record Going (xs ns ks ranks counts rest : List ℕ) (i : ℕ) : Type 0 where
   pub few : i ≤ most_lines
-  pub inside : from ≤ length xs
-  pub there : drop from xs ≡ behind i xs
+  pub there : rest ≡ behind i xs
   pub ns_long : length ns ≡ most_lines
   pub ks_long : length ks ≡ most_lines
   pub ranks_long : length ranks ≡ 8 * most_lines
@@ -59,11 +57,10 @@ pub record Going (xs ns ks ranks counts : List ℕ) (from i : ℕ) : Type 0 wher
   pub held : (h : ℕ) → h < i → Held xs ns ks ranks counts h
 
 pub going_first : {xs ns ks ranks counts : List ℕ} → length ns ≡ most_lines → length ks ≡ most_lines → length ranks ≡ 8 * most_lines →
-    length counts ≡ 8 * most_lines → Going xs ns ks ranks counts 0 0
+    length counts ≡ 8 * most_lines → Going xs ns ks ranks counts xs 0
 unfolding behind
 going_first ns_long ks_long ranks_long counts_long = record {
   few = omega arith;
-  inside = omega arith;
   there = refl;
   ns_long = ns_long;
   ks_long = ks_long;
@@ -72,34 +69,30 @@ going_first ns_long ks_long ranks_long counts_long = record {
   held = λ h l. absurd (omega arith);
 }
 
-module _ {xs ns ks ranks counts : List ℕ} {from i end : ℕ} (so : Going xs ns ks ranks counts from i) (end_is : end ≡ from + line_long (drop from xs)) where
-  pub end_inside : end ≤ length xs
-  end_inside = omega (arith, line_inside (drop from xs), length-drop from xs, so.inside)
-
-  line_is : take (end - from) (drop from xs) ≡ line_at i xs
+-- the rest parted behind its first line
+module _ {xs ns ks ranks counts rest line after : List ℕ} {i : ℕ} (so : Going xs ns ks ranks counts rest i)
+    (line_first : line ≡ take (line_long rest) rest) (after_line : after ≡ drop (line_long rest) rest) where
+  line_is : line ≡ line_at i xs
   unfolding line_at
-  line_is =
-      let long : end - from ≡ line_long (drop from xs) = omega arith in
-      ap (λ m. take m (drop from xs)) long ∙ ap (λ ys. take (line_long ys) ys) so.there
+  line_is = line_first ∙ ap (λ ys. take (line_long ys) ys) so.there
 
-  line_behind : drop end xs ≡ behind (i + 1) xs
+  line_behind : after ≡ behind (i + 1) xs
   unfolding behind
-  line_behind =
-      rw (add-one, behind) (ap (λ p. drop p xs) end_is ∙ sym (drop-drop (line_long (drop from xs)) from xs) ∙ ap (λ ys. drop (line_long ys) ys) so.there)
+  line_behind = rw (add-one, behind) (after_line ∙ ap (λ ys. drop (line_long ys) ys) so.there)
 
   -- a line that says nothing
-  pub failing : i < most_lines → from < length xs → Reads (take (end - from) (drop from xs)) None → Failing xs ns ks ranks counts (i + 1)
+  pub failing : i < most_lines → 1 ≤ length rest → Reads line None → Failing xs ns ks ranks counts (i + 1)
   failing few l reads = record {
     i = i;
     is = refl;
     few = few;
     held = so.held;
-    some = rw (← so.there) (omega (arith, length-drop from xs));
+    some = rw (← so.there) l;
     bad = rw line_is at reads;
   }
 
   -- and one that says a stretch
-  module _ {n k r t p q : ℕ} {ranks' counts' : List ℕ} (some : i < most_lines) (says : Says (take (end - from) (drop from xs)) n k r t)
+  module _ {n k r t p q : ℕ} {ranks' counts' : List ℕ} (some : i < most_lines) (says : Says line n k r t)
       (ranks_put : Put ranks (8 * i) (bytes_of 8 r) p ranks') (counts_put : Put counts (8 * i) (bytes_of 8 t) q counts') where
     held_here : Held xs (set ns i (in_byte_lem n)) (set ks i (in_byte_lem k)) ranks' counts' i
     held_here =
@@ -127,10 +120,9 @@ module _ {xs ns ks ranks counts : List ℕ} {from i end : ℕ} (so : Going xs ns
         }
 
     pub going_on : {nb kb : ℕ} → nb ≡ in_byte_lem n → kb ≡ in_byte_lem k →
-        Going xs (set ns i nb) (set ks i kb) ranks' counts' end (i + 1)
+        Going xs (set ns i nb) (set ks i kb) ranks' counts' after (i + 1)
     going_on n_is k_is = rw (n_is, k_is) (record {
       few = omega arith;
-      inside = end_inside;
       there = line_behind;
       ns_long = length-set ns i (in_byte_lem n) ∙ so.ns_long;
       ks_long = length-set ks i (in_byte_lem k) ∙ so.ks_long;
@@ -142,6 +134,6 @@ module _ {xs ns ks ranks counts : List ℕ} {from i end : ℕ} (so : Going xs ns
     })
 
 -- the lines are over, or there are as many as are looked at
-pub taking : {xs ns ks ranks counts : List ℕ} {from i : ℕ} → Going xs ns ks ranks counts from i →
-    (i < most_lines → length xs ≤ from) → Taking xs ns ks ranks counts i
-taking {xs} so over = record { few = so.few; held = so.held; all = λ l. sym so.there ∙ drop_of_length-le xs (over l) }
+pub taking : {xs ns ks ranks counts rest : List ℕ} {i : ℕ} → Going xs ns ks ranks counts rest i →
+    (i < most_lines → rest ≡ []) → Taking xs ns ks ranks counts i
+taking so over = record { few = so.few; held = so.held; all = λ l. sym so.there ∙ over l }

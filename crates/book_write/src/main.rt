@@ -42,13 +42,13 @@ fn take_lines(
     ensures takes { Takes input.now ns.new ks.new ranks.new counts.new result }
     ensures few { IfOk result (λ m. m ≤ most_lines) }
 {
-    let mut from = 0;
+    let mut rest = input;
     for i in 0..MOST_LINES {
-        if input.len() <= from {
+        if rest.is_empty() {
             return Ok(i);
         }
-        let end = line::end_of(input, from);
-        let Some(line) = line::read(&input[from..end]) else {
+        let (first, behind) = rest.split_at(line::end_of(rest));
+        let Some(line) = line::read(first) else {
             return Err(Refusal {
                 fault: Fault::Line,
                 place: (i + 1) as u8,
@@ -58,7 +58,7 @@ fn take_lines(
         ks[i] = in_byte(line.k);
         write::put_number(ranks, 8 * i, line.rank, 8);
         write::put_number(counts, 8 * i, line.count, 8);
-        from = end;
+        rest = behind;
     }
     Ok(MOST_LINES)
 }

@@ -1,5 +1,5 @@
 -- How long a line is, as the place of its first newline tells. Assumes nothing.
-use Rattle.std.proofs.Common.{ℕ, zero, suc, ◌≡◌, ◌∙◌, sym, ◌+◌, ◌≤◌, ◌<◌, true, false, List, [], ◌∷◌, eqb, length, get_or, take, drop, take_all, length-drop, arith, Some, None, ap, refl, ◌-◌}
+use Rattle.std.proofs.Common.{ℕ, zero, suc, ◌≡◌, ◌∙◌, sym, ◌+◌, ◌≤◌, ◌<◌, true, false, List, [], ◌∷◌, eqb, length, get_or, arith, Some, None, ap, refl}
 use Rattle.std.proofs.lemmas.Option.{none-some}
 use borrow.Author.Tests.{lt-ltb}
 use Rattle.std.specs.Bool.{◌==◌}
@@ -7,10 +7,6 @@ use Rattle.std.specs.List.{position, position_or_len}
 use Rattle.std.proofs.lemmas.List.Quantifiers.{position-Some}
 use Rattle.rows.proofs.Cases.{by_test, by_lt}
 use Rattle.line.specs.Line.{line_long}
-
--- what is behind a place
-pub behind : (xs : List ℕ) (from : ℕ) → take (length xs - from) (drop from xs) ≡ drop from xs
-behind xs from = take_all (length xs - from) (drop from xs) (omega (arith, length-drop from xs))
 
 first_there : (xs : List ℕ) (i : ℕ) → i < length xs → eqb (get_or xs i 0) 10 ≡ true → ((k : ℕ) → k < i → eqb (get_or xs k 0) 10 ≡ false) → line_long xs ≡ i + 1
 unfolding line_long

@@ -65,13 +65,12 @@ fn find_newline(bytes: &[u8]) -> Option<usize>
     bytes.iter().position(|byte| *byte == b'\n')
 }
 
-// Where the line that begins at a place ends: behind its newline, or where the input does.
-pub fn end_of(input: &[u8], from: usize) -> usize
-    requires { from ≤ length input.now }
-    ensures { result ≡ from + line_long (drop from input.now) }
+// Where the first line ends: behind its newline, or where the input does.
+pub fn end_of(input: &[u8]) -> usize
+    ensures { result ≡ line_long input.now }
 {
-    match find_newline(&input[from..]) {
-        Some(i) => from + i + 1,
+    match find_newline(input) {
+        Some(i) => i + 1,
         None => input.len(),
     }
 }

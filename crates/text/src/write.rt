@@ -1,5 +1,6 @@
 // The lines of the programs, each appended to a text that has room for it. The room is of the text as it
-// stands at a call, so it is asked in a clause, and no type holds it.
+// stands at a call, so it is asked in a clause, and no type holds it. Lines are no `Display`: by it and `write!`
+// the listing takes half as long again, and `write!` doesn't promise that what has room is appended.
 ghost use Rattle.std.specs.Prelude.{◌≡◌, [], ◌∷◌, ◌++◌, ◌+◌, ◌*◌, ◌≤◌, length};
 ghost use Rattle.arrayvec.specs.ArrayVec.{array_vec_len, Extends};
 ghost use Rattle.rows.specs.Row.{at as slot_of};

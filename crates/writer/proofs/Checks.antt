@@ -68,6 +68,7 @@ few_stretches e passed = inside 1 most_entries e (no_fault Format _ passed)
 
 -- what is known where they are not refused
 pub record Accepted (l : Lists) (buffer : List ℕ) : Type 0 where
+  pub one_length : OneLength l
   pub all : AllBookable l
   pub some : 1 ≤ stretches_in l
   pub room : length (book_lent l) ≤ length buffer
@@ -87,8 +88,8 @@ accepted l buffer e =
     let each = both_fine (first_of (λ i. stretch_verdict (stretch_at_lem l i)) (stretches_in l)) _ few.1 in
     let range = few_stretches (stretches_in l) few.0 in
     record {
+      one_length = one_length l lent.0 range.1;
       all = record {
-        one_length = one_length l lent.0 range.1;
         bookable = λ i h. bookable (stretch_at_lem l i) (each_fine (λ j. stretch_verdict (stretch_at_lem l j)) (stretches_in l) each.0 i h);
       };
       some = range.0;
@@ -98,7 +99,7 @@ accepted l buffer e =
 pub accepted_fine : (l : Lists) (buffer : List ℕ) → Accepted l buffer → write_verdict l buffer ≡ fine
 unfolding write_verdict lists_verdict length_verdict few_verdict room_verdict first
 accepted_fine l buffer a =
-    let o = a.all.one_length in
+    let o = a.one_length in
     sym
     (goes
     (faultless Length (right_length _ _ o.ks_long) (faultless Length (right_length _ _ o.ranks_long) (last_faultless Length (right_length _ _ o.counts_long))))

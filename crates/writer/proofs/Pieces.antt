@@ -22,7 +22,7 @@ use Rattle.book.proofs.Bytes.{bytes_long}
 use Rattle.book.proofs.Checks.{body_places_rise}
 use Rattle.book.proofs.Books.{entries_size, bodies_size, entry_long, body_long, book_long}
 use Rattle.writer.specs.Write.{Lists, stretches_in, stretch_at_lem, book_lent, room_verdict}
-use Rattle.writer.specs.Asked.{AllBookable, SlotsAsked}
+use Rattle.writer.specs.Asked.{OneLength, AllBookable, SlotsAsked}
 
 -- ---- the bytes of a number
 
@@ -216,13 +216,13 @@ module _ (l : Lists) where
       )
 
   -- and is short
-  pub book_short : AllBookable l → length (book_lent l) ≤ 2178
+  pub book_short : OneLength l → AllBookable l → length (book_lent l) ≤ 2178
   unfolding entry_place_lem stretch_at_lem
-  book_short all =
+  book_short one_length all =
       omega (
         arith,
         lent_long,
-        all.one_length.few,
+        one_length.few,
         place_high (stretches_in l) (at l.ns) 20 (stretches_in l) (λ h g. (all.bookable h g).sizes.n_high),
       )
 

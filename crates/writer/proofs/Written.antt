@@ -47,13 +47,13 @@ module _ (l : Lists) (buffer : List ℕ) (passed : write_verdict l buffer ≡ fi
   -- the reader accepts it
   pub written_accepted : book_verdict format_one (book_lent l) ≡ fine
   written_accepted =
-      sym (checked_fine format_one (book_lent l) (laid_checked format_one_sound laid a.all.bookable a.all.one_length.few a.some))
+      sym (checked_fine format_one (book_lent l) (laid_checked format_one_sound laid a.all.bookable a.one_length.few a.some))
 
   module _ (i : ℕ) (h : i < stretches_in l) where
     asked_written : asked_verdict format_one (book_lent l) (i + 1) ≡ fine
     asked_written =
         asked_fine format_one (book_lent l) (i + 1) written_accepted (omega arith)
-        (omega (arith, read_entries format_one_sound laid a.all.bookable a.all.one_length.few))
+        (omega (arith, read_entries format_one_sound laid a.all.bookable a.one_length.few))
 
     -- and reads off entry i + 1 the stretch i that was given
     pub reads_back : answers_of format_one (book_lent l) (i + 1)
@@ -61,7 +61,7 @@ module _ (l : Lists) (buffer : List ℕ) (passed : write_verdict l buffer ≡ fi
     unfolding answers_of unless_refused
     reads_back =
         let here : i + 1 - 1 ≡ i = omega arith in
-        let few = a.all.one_length.few in
+        let few = a.one_length.few in
         let n_is = read_n format_one_sound laid a.all.bookable few i h in
         let k_is = read_k format_one_sound laid a.all.bookable few i h in
         let count_is = read_count format_one_sound laid a.all.bookable few i h in
@@ -72,8 +72,8 @@ module _ (l : Lists) (buffer : List ℕ) (passed : write_verdict l buffer ≡ fi
     pub arrangement_back : (p : ℕ) → p < (stretch_at_lem l i).n →
         let s = stretch_at_lem l i in (modules_of format_one (book_lent l) i p ≡ unrank_modules s.n s.k s.rank p) × (settings_of format_one (book_lent l) i p ≡ unrank_settings s.n s.k s.rank p)
     arrangement_back p g = (
-      read_module format_one_sound laid a.all.bookable a.all.one_length.few i h p g,
-      read_setting format_one_sound laid a.all.bookable a.all.one_length.few i h p g,
+      read_module format_one_sound laid a.all.bookable a.one_length.few i h p g,
+      read_setting format_one_sound laid a.all.bookable a.one_length.few i h p g,
     )
 
 -- ---- a book read and written again
@@ -141,8 +141,8 @@ module _ (xs : List ℕ) (bytes : Bytes xs) (passed : book_verdict format_one xs
   -- and the writer accepts them
   pub rewriting_accepted : (buffer : List ℕ) → length xs ≤ length buffer → write_verdict l buffer ≡ fine
   rewriting_accepted buffer room = accepted_fine l buffer (record {
+    one_length = listed;
     all = record {
-      one_length = listed;
       bookable = λ i h. let g : i < entries_of xs = omega (arith, as_many, h) in rw (read_listed i g) (checked_bookable format_one_sound xs bytes c i g);
     };
     some = omega (arith, as_many, c.some);

@@ -14,7 +14,6 @@ pub record OneLength (l : Lists) : Type 0 where
 
 -- whose stretches may stand in a book
 pub record AllBookable (l : Lists) : Type 0 where
-  pub one_length : OneLength l
   pub bookable : (i : ℕ) → i < stretches_in l → Bookable (stretch_at_lem l i)
 
 -- an arrangement in two rows of as many places, and room for its bytes

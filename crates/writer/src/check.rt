@@ -4,10 +4,9 @@ ghost use Rattle.std.specs.Prelude.{◌≡◌, ◌*◌, length};
 ghost use Rattle.arrangement.specs.Check.{length_verdict};
 ghost use Rattle.book.specs.Read.{first_of};
 ghost use Rattle.writer.specs.Write.{lent, stretch_at_lem, lists_verdict, stretch_verdict, write_verdict};
-ghost use Rattle.writer.specs.Asked.{OneLength};
 
 use crate::lists;
-use crate::lists::Lists;
+use crate::lists::{Lists, Stretches};
 use book::check;
 use book::format::{MOST_ENTRIES, Stretch};
 use rank::start::Start;
@@ -40,12 +39,11 @@ fn judge_stretch(stretch: Stretch) -> Verdict
 }
 
 // The check of all stretches.
-fn judge_stretches(lists: &Lists) -> Verdict
-    requires { OneLength (lent lists.now) }
-    ensures { result ≡ first_of (λ i. stretch_verdict (stretch_at_lem (lent lists.now) i)) (length lists.now.ns.now) }
+fn judge_stretches(stretches: Stretches) -> Verdict
+    ensures { result ≡ first_of (λ i. stretch_verdict (stretch_at_lem (lent stretches.entry.lists) i)) (length stretches.entry.lists.ns.now) }
 {
-    for i in 0..lists.ns.len() {
-        check::in_entry(i, judge_stretch(lists.stretch_at(i)))?;
+    for i in 0..stretches.lists.ns.len() {
+        check::in_entry(i, judge_stretch(stretches.stretch_at(i)))?;
     }
     Ok(())
 }
@@ -56,6 +54,6 @@ pub fn judge(lists: &Lists, buffer: &[u8]) -> Verdict
 {
     judge_lists(lists)?;
     refuse_if(Fault::Format, outside(1, MOST_ENTRIES, lists.ns.len()))?;
-    judge_stretches(lists)?;
+    judge_stretches(Stretches { lists: *lists })?;
     refuse_if(Fault::Length, buffer.len() < lists::book_length(lists.ns))
 }

@@ -17,16 +17,24 @@ pub struct Lists<'a> {
     pub counts: &'a [u8],
 }
 
-impl Lists<'_> {
-    // One stretch.
-    pub(crate) fn stretch_at(&self, i: usize) -> Stretch
-        requires { OneLength (lent self.now) × (i < length self.now.ns.now) }
-        ensures { result ≡ stretch_at_lem (lent self.now) i }
+// Stretches, of four lists that have one length, and no more than a book may have.
+#[derive(Clone, Copy)]
+pub struct Stretches<'a> {
+    pub lists: Lists<'a>,
+    pub ghost one_length: { OneLength (lent lists) },
+}
+
+impl Stretches<'_> {
+    // One of them.
+    pub(crate) fn stretch_at(self, i: usize) -> Stretch
+        requires { i < length self.lists.ns.now }
+        ensures { result ≡ stretch_at_lem (lent self.entry.lists) i }
     {
-        let n = usize::from(self.ns[i]);
-        let k = usize::from(self.ks[i]);
-        let rank = format::number_in(&self.ranks[8 * i..8 * i + 8]);
-        let count = format::number_in(&self.counts[8 * i..8 * i + 8]);
+        let lists = self.lists;
+        let n = usize::from(lists.ns[i]);
+        let k = usize::from(lists.ks[i]);
+        let rank = format::number_in(&lists.ranks[8 * i..8 * i + 8]);
+        let count = format::number_in(&lists.counts[8 * i..8 * i + 8]);
         Stretch { n, k, rank, count }
     }
 }

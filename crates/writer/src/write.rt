@@ -9,7 +9,7 @@ ghost use Rattle.writer.specs.Write.{lent, stretch_at_lem, write_tells, write_le
 ghost use Rattle.writer.specs.Asked.{AllBookable, SlotsAsked};
 
 use crate::check;
-use crate::lists::Lists;
+use crate::lists::{Lists, Stretches};
 use book::format;
 use book::format::Stretch;
 use rank::start::Start;
@@ -70,14 +70,14 @@ fn put_body(out: &mut [u8], from: usize, stretch: Stretch) -> usize
 }
 
 // All entries. A body begins behind the contents and the bodies before it.
-fn put_entries(out: &mut [u8], from: usize, lists: &Lists) -> usize
-    requires { AllBookable (lent lists.now) × (from + 14 * length lists.now.ns.now ≤ length out.old) }
-    ensures { Put out.old from (entries_bytes format_one (length lists.now.ns.now) (stretch_at_lem (lent lists.now))) result out.new }
+fn put_entries(out: &mut [u8], from: usize, stretches: Stretches) -> usize
+    requires { AllBookable (lent stretches.lists) × (from + 14 * length stretches.lists.ns.now ≤ length out.old) }
+    ensures { Put out.old from (entries_bytes format_one (length stretches.entry.lists.ns.now) (stretch_at_lem (lent stretches.entry.lists))) result out.new }
 {
     let mut end = from;
-    let mut offset = format::entry_place(lists.ns.len());
-    for i in 0..lists.ns.len() {
-        let stretch = lists.stretch_at(i);
+    let mut offset = format::entry_place(stretches.lists.ns.len());
+    for i in 0..stretches.lists.ns.len() {
+        let stretch = stretches.stretch_at(i);
         end = put_entry(out, end, offset, stretch);
         offset += stretch.n;
     }
@@ -85,13 +85,13 @@ fn put_entries(out: &mut [u8], from: usize, lists: &Lists) -> usize
 }
 
 // All bodies.
-fn put_bodies(out: &mut [u8], from: usize, lists: &Lists) -> usize
-    requires { AllBookable (lent lists.now) × (from ≡ entry_place_lem (length lists.now.ns.now)) × (body_place format_one (length lists.now.ns.now) (at lists.now.ns.now) (length lists.now.ns.now) ≤ length out.old) }
-    ensures { Put out.old from (bodies_bytes format_one (length lists.now.ns.now) (stretch_at_lem (lent lists.now))) result out.new }
+fn put_bodies(out: &mut [u8], from: usize, stretches: Stretches) -> usize
+    requires { AllBookable (lent stretches.lists) × (from ≡ entry_place_lem (length stretches.lists.ns.now)) × (body_place format_one (length stretches.lists.ns.now) (at stretches.lists.ns.now) (length stretches.lists.ns.now) ≤ length out.old) }
+    ensures { Put out.old from (bodies_bytes format_one (length stretches.entry.lists.ns.now) (stretch_at_lem (lent stretches.entry.lists))) result out.new }
 {
     let mut end = from;
-    for i in 0..lists.ns.len() {
-        end = put_body(out, end, lists.stretch_at(i));
+    for i in 0..stretches.lists.ns.len() {
+        end = put_body(out, end, stretches.stretch_at(i));
     }
     end
 }
@@ -104,6 +104,7 @@ pub fn write_lent(lists: &Lists, book: &mut [u8]) -> Result<usize, Refusal>
     check::judge(lists, book)?;
     let format = put_byte(book, 0, 1);
     let head = put_byte(book, format, lists.ns.len() as u8);
-    let contents = put_entries(book, head, lists);
-    Ok(put_bodies(book, contents, lists))
+    let stretches = Stretches { lists: *lists };
+    let contents = put_entries(book, head, stretches);
+    Ok(put_bodies(book, contents, stretches))
 }

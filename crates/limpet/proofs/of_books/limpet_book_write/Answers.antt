@@ -13,4 +13,4 @@ returns c =
 pub pack-requires : goal.pack-requires
 unfolding write_tells
 pack-requires c =
-    value_fits 2178 c.write_lent.ensures.value (λ passed. book_short _ (accepted _ _ passed).all) (omega arith)
+    value_fits 2178 c.write_lent.ensures.value (λ passed. let a = accepted _ _ passed in book_short _ a.one_length a.all) (omega arith)

@@ -32,8 +32,10 @@ few : (c : In_ok-refuse_if) → length c.args.lists.now.ns.now ≤ most_entries
 unfolding few_verdict
 few c = (few_stretches _ (sym (c.in_ok-refuse_if.ensures ∙ ap (refused_if Format) c.outside.ensures))).1
 
-pub judge_stretches-requires : goal.judge_stretches-requires
-judge_stretches-requires c = one_length (lent c.args.lists.now) (sym c.in_ok-judge_lists.ensures) (few (goal.at.judge_stretches-requires c).In_ok-refuse_if)
+pub invariant_of-judge_stretches : goal.invariant_of-judge_stretches
+invariant_of-judge_stretches c = record {
+  one_length = one_length (lent c.args.lists.now) (sym c.in_ok-judge_lists.ensures) (few (goal.at.invariant_of-judge_stretches c).In_ok-refuse_if);
+}
 
 pub returns-in_err-judge_stretches : goal.returns-in_err-judge_stretches
 unfolding write_verdict
@@ -48,6 +50,3 @@ returns c =
     goes_on c.in_ok-judge_lists.ensures
     (goes_on (c.in_ok-refuse_if.ensures ∙ counted (goal.at.returns c).After-outside)
     (goes_on c.in_ok-judge_stretches.ensures (c.refuse_if-2.ensures ∙ room_told (lent c.args.lists.now) _ c.book_length.ensures)))
-
-pub book_length-requires : goal.book_length-requires
-book_length-requires c = few (goal.at.book_length-requires c).In_ok-refuse_if

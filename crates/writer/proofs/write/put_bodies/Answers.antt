@@ -5,7 +5,7 @@ use Rattle.writer.proofs.write.put_bodies.Goals as goal
 
 -- what was lent
 abbrev lent : (c : At-loop-i) → Lists
-lent c = lent_to c.args.lists.now
+lent c = lent_to c.args.stretches.lists
 
 pub loop-i-init : goal.loop-i-init
 loop-i-init c = (joined_first _)

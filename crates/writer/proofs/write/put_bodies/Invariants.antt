@@ -6,4 +6,4 @@ use Rattle.writer.proofs.Pieces.{bodies_to}
 use Rattle.writer.proofs.write.put_bodies.Given as goal
 
 abbrev pub invariant-loop-i : goal.invariant-loop-i
-invariant-loop-i l = Put l.initial.out l.from (bodies_to (lent l.lists) l.i) l.end l.out
+invariant-loop-i l = Put l.initial.out l.from (bodies_to (lent l.stretches.lists) l.i) l.end l.out

@@ -11,4 +11,4 @@ use Rattle.writer.proofs.write.put_entries.Given as goal
 
 abbrev pub invariant-loop-i : goal.invariant-loop-i
 invariant-loop-i l =
-    (l.offset ≡ body_place format_one (length l.lists.ns.now) (at l.lists.ns.now) l.i) × Put l.initial.out l.from (entries_to (lent l.lists) l.i) l.end l.out
+    (l.offset ≡ body_place format_one (length l.stretches.lists.ns.now) (at l.stretches.lists.ns.now) l.i) × Put l.initial.out l.from (entries_to (lent l.stretches.lists) l.i) l.end l.out

@@ -2,14 +2,11 @@ use mathlib.Core.Path.{◌≡◌, refl, ap}
 use native.Mathlib.Omega.{arith}
 use Rattle.rows.proofs.Puts.{put_as}
 use Rattle.book.specs.Format.{bytes_of}
-use Rattle.writer.proofs.Pieces.{numbered_first, numbered_long, numbered_on}
+use Rattle.writer.proofs.Pieces.{numbered_first, numbered_on}
 use Rattle.writer.proofs.write.put_number.Goals as goal
 
 pub loop-i-init : goal.loop-i-init
 loop-i-init c = (numbered_first _ _ _)
-
-pub bounds-out-from : goal.bounds-out-from
-bounds-out-from c = omega (arith, c.requires, c.loop-i-test.true, numbered_long (omega (arith, c.requires, c.loop-i-test.true)) c.loop-i.invariant)
 
 pub loop-i-preserved : goal.loop-i-preserved
 loop-i-preserved c =

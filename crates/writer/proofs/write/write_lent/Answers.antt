@@ -23,12 +23,15 @@ returns-in_err-judge c =
 asked : (c : In_ok-judge) → Accepted (lent c.args.lists.now) c.args.book.now
 asked c = accepted _ _ (sym c.in_ok-judge.ensures)
 
+pub invariant_of-stretches : goal.invariant_of-stretches
+invariant_of-stretches c = record { one_length = (asked (goal.at.invariant_of-stretches c).In_ok-judge).one_length }
+
 pub put_byte-format-requires : goal.put_byte-format-requires
 put_byte-format-requires c =
     omega (arith, contents_inside (lent c.args.lists.now), (asked (goal.at.put_byte-format-requires c).In_ok-judge).room)
 
 pub overflow_cast-lists : goal.overflow_cast-lists
-overflow_cast-lists c = omega (arith, (asked (goal.at.overflow_cast-lists c).In_ok-judge).all.one_length.few)
+overflow_cast-lists c = omega (arith, (asked (goal.at.overflow_cast-lists c).In_ok-judge).one_length.few)
 
 pub put_byte-head-requires : goal.put_byte-head-requires
 put_byte-head-requires c =
