@@ -51,7 +51,8 @@
  *   11  a count t is above 65,536
  *   12  a pair has a module outside 1..n, the same module twice or a setting of k or more
  *   13  a book ends before its contents do
- *   14  a book's format isn't 1, or its number of entries is 0 or above 64
+ *   14  a book's format isn't 1, or its number of entries is 0 or above 64; or no stretch is to be
+ *       written, or more than 64
  *   15  an entry's offset isn't the expected one, or its count is 0 or above T
  *   16  a book's length isn't the end of its last body
  *   18  the entry asked for is 0 or above E

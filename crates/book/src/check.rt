@@ -14,20 +14,16 @@ use arrangement::check;
 use sizes::permitted::Sizes;
 use sizes::{Fault, MOST_SLOTS, Refusal, Verdict, outside, refuse_if};
 
-// A verdict about an entry, which is counted from 0 here. What a closure under `map_err` gives has no name in
-// a proof, so it is a `match`.
+// A verdict about an entry, which is counted from 0 here.
 #[tactic(auto, unfolding(crate::specs::Read::in_entry_lem))]
 pub fn in_entry(i: usize, verdict: Verdict) -> Verdict
     requires { i < most_entries }
     ensures { result ≡ in_entry_lem i verdict }
 {
-    match verdict {
-        Ok(()) => Ok(()),
-        Err(refusal) => Err(Refusal {
-            place: (i + 1) as u8,
-            ..refusal
-        }),
-    }
+    verdict.map_err(|refusal| Refusal {
+        place: (i + 1) as u8,
+        ..refusal
+    })
 }
 
 // The check of a count, of permitted sizes.
