@@ -5,7 +5,7 @@ use Rattle.rows.specs.Row.{at}
 use Rattle.rows.specs.Search.{if_lt}
 use Rattle.sizes.specs.declared.Fault.TheVariants.{Line}
 use Rattle.sizes.specs.declared.Refusal.{Refusal}
-use Rattle.sizes.specs.Refusal.{Verdict}
+use Rattle.sizes.specs.Refusal.{Verdict, fine}
 use Rattle.sizes.specs.Outcome.{answered, left}
 use Rattle.line.specs.Line.{Says, Reads, line_long}
 use Rattle.writer.specs.Write.{Lists, lists, word_at, book_lent, write_verdict}
@@ -85,3 +85,12 @@ pub record Answers (xs before : List ℕ) (r : Result ℕ Refusal) (after : List
   pub takes : Takes xs l.ns l.ks l.ranks l.counts taken
   pub answer_is : r ≡ answered (taken_verdict taken l before) (length (taken_book taken l))
   pub after_is : after ≡ left (taken_verdict taken l before) before (taken_book taken l ++ drop (length (taken_book taken l)) before)
+
+-- and what is to be printed of any input xs, from such lists: the verdict, and where that is fine, the book. What each leaves on the
+-- streams is `print`'s promise
+pub record Shows (xs before : List ℕ) (v : Verdict) (text : List ℕ) : Type 0 where
+  pub l : Lists
+  pub taken : Result ℕ Refusal
+  pub takes : Takes xs l.ns l.ks l.ranks l.counts taken
+  pub verdict_is : v ≡ taken_verdict taken l before
+  pub text_is : v ≡ fine → text ≡ taken_book taken l

@@ -4,9 +4,9 @@
 #![tactic(auto)]
 
 ghost use Rattle.std.specs.Prelude.{◌≡◌, ◌≤◌, IfOk};
-ghost use Rattle.book_write.specs.Lines.{in_byte_lem, most_lines, Takes, Answers};
+ghost use Rattle.book_write.specs.Lines.{in_byte_lem, most_lines, Takes, Answers, Shows};
 
-use sizes::{Fault, Refusal};
+use sizes::{Fault, Refusal, Verdict};
 use writer::lists::Lists;
 use writer::write;
 
@@ -82,12 +82,20 @@ fn answer(input: &[u8], out: &mut [u8]) -> Result<usize, Refusal>
     write::write_lent(&lists, out)
 }
 
+// What is to be printed of any input: the refusal, or where there is nothing to refuse, the book in the buffer.
+fn shown<'a>(input: &[u8], out: &'a mut [u8]) -> (Verdict, &'a [u8])
+    ensures { Shows input.now out.old result.0 result.1.now }
+{
+    match answer(input, out) {
+        Ok(length) => (Ok(()), &out[..length]),
+        Err(refusal) => (Err(refusal), &[]),
+    }
+}
+
 fn main(rt: HostRuntime) {
     let mut input = [0u8; LONGEST];
     let mut out = [0u8; BUFFER];
     let count = streams::read_full(&mut rt.stdin(), &mut input);
-    let length = answer(&input[..count], &mut out);
-    let book = &out[..length.unwrap_or(0)];
-    let verdict = length.map(|_| ());
-    print::print(verdict, book, &mut rt.stdout(), &mut rt.stderr());
+    let (verdict, text) = shown(&input[..count], &mut out);
+    print::print(verdict, text, &mut rt.stdout(), &mut rt.stderr());
 }
