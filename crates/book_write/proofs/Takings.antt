@@ -136,4 +136,12 @@ module _ {xs ns ks ranks counts rest line after : List ℕ} {i : ℕ} (so : Goin
 -- the lines are over, or there are as many as are looked at
 pub taking : {xs ns ks ranks counts rest : List ℕ} {i : ℕ} → Going xs ns ks ranks counts rest i →
     (i < most_lines → rest ≡ []) → Taking xs ns ks ranks counts i
-taking so over = record { few = so.few; held = so.held; all = λ l. sym so.there ∙ over l }
+taking so over = record {
+  few = so.few;
+  ns_enough = omega (arith, so.few, so.ns_long);
+  ks_enough = omega (arith, so.few, so.ks_long);
+  ranks_enough = omega (arith, so.few, so.ranks_long);
+  counts_enough = omega (arith, so.few, so.counts_long);
+  held = so.held;
+  all = λ l. sym so.there ∙ over l;
+}

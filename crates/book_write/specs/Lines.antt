@@ -1,11 +1,11 @@
--- W-201, the input of the writer of books: a line for each stretch, in the grammar of 01's listing. Lines are counted from 0 here, so
--- that line i is the planner's line i + 1.
+-- The input of the writer of books, a program beside W-201's call: a line for each stretch, in the grammar of 01's listing. Lines are
+-- counted from 0 here, so that line i is the planner's line i + 1.
 use Rattle.std.specs.Prelude.{ℕ, zero, suc, ◌+◌, ◌*◌, ◌≤◌, ◌<◌, ◌≡◌, List, [], ◌++◌, length, take, drop, Result, Ok, Err, None}
 use Rattle.rows.specs.Row.{at}
 use Rattle.rows.specs.Search.{if_lt}
 use Rattle.sizes.specs.declared.Fault.TheVariants.{Line}
 use Rattle.sizes.specs.declared.Refusal.{Refusal}
-use Rattle.sizes.specs.Refusal.{Verdict, fine}
+use Rattle.sizes.specs.Refusal.{Verdict}
 use Rattle.sizes.specs.Outcome.{answered, left}
 use Rattle.line.specs.Line.{Says, Reads, line_long}
 use Rattle.writer.specs.Write.{Lists, lists, word_at, book_lent, write_verdict}
@@ -45,9 +45,13 @@ listed m ns ks ranks counts = lists (take m ns) (take m ks) (take (8 * m) ranks)
 
 -- ---- what is made of any input
 
--- all its lines say stretches; of more than 64, the first 65
+-- all its lines say stretches, and no list is too short for so many; of more than 64 lines, the first 65
 pub record Taking (xs ns ks ranks counts : List ℕ) (m : ℕ) : Type 0 where
   pub few : m ≤ most_lines
+  pub ns_enough : m ≤ length ns
+  pub ks_enough : m ≤ length ks
+  pub ranks_enough : 8 * m ≤ length ranks
+  pub counts_enough : 8 * m ≤ length counts
   pub held : (i : ℕ) → i < m → Held xs ns ks ranks counts i
   pub all : m < most_lines → behind m xs ≡ []
 
@@ -86,11 +90,11 @@ pub record Answers (xs before : List ℕ) (r : Result ℕ Refusal) (after : List
   pub answer_is : r ≡ answered (taken_verdict taken l before) (length (taken_book taken l))
   pub after_is : after ≡ left (taken_verdict taken l before) before (taken_book taken l ++ drop (length (taken_book taken l)) before)
 
--- and what is to be printed of any input xs, from such lists: the verdict, and where that is fine, the book. What each leaves on the
--- streams is `print`'s promise
+-- and what is to be printed of any input xs, from such lists: the verdict, and the book, or no byte where xs is refused. What they leave
+-- on the streams is `print`'s promise
 pub record Shows (xs before : List ℕ) (v : Verdict) (text : List ℕ) : Type 0 where
   pub l : Lists
   pub taken : Result ℕ Refusal
   pub takes : Takes xs l.ns l.ks l.ranks l.counts taken
   pub verdict_is : v ≡ taken_verdict taken l before
-  pub text_is : v ≡ fine → text ≡ taken_book taken l
+  pub text_is : text ≡ left v [] (taken_book taken l)
